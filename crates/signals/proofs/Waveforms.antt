@@ -1,0 +1,2 @@
+-- Lemmas on waveforms. Assumes nothing.
+use mathlib.Core.Path.{_≡_, refl}

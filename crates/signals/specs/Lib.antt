@@ -1,0 +1,3 @@
+pub mod Waveform
+pub mod GateRule
+pub mod Theorems

@@ -1,0 +1,1 @@
+// Waveforms and the gate rule: theory that every other crate rests on.
