@@ -1,0 +1,9 @@
+pub mod Circuit
+pub mod Record
+pub mod Layout
+pub mod Rules
+pub mod Plain
+pub mod View
+pub mod Fault
+pub mod Next
+pub mod Outcome

@@ -1,0 +1,113 @@
+-- The rules that each record of a circuit file keeps, with their numbers, and the order in which they are checked. Assumes nothing.
+use mathlib.Core.Bool.{Bool, true, false, not, _&&_, _||_, cond}
+use mathlib.Core.List.{List, [], _∷_}
+use Prim.Native.Nat.{ℕ, _-_}
+use lib.Dec.{leb, ltb, eqb}
+use lib.ListN.{length, getD, drop}
+use Rattle.std.specs.declared.option.Option.{Option}
+use Rattle.std.specs.declared.option.Option.the-variants.{Some, None}
+use Rattle.netlist.specs.Circuit.{allBelow, goodHead}
+use Rattle.netlist.specs.Record.{two, lengthOf, kindOf, payloadOf, cutShort}
+
+-- what is due at a place of the file: the head, or a gate with this number for its own net
+pub data Due : Type 0 where
+  head : Due
+  gate : ℕ → Due
+
+-- the rules
+pub data Rule : Type 0 where
+  -- the record is whole
+  whole : Rule
+  -- its kind is the one due
+  kind : Rule
+  -- its payload has 2 bytes for a head, 6 to 13 for a gate
+  size : Rule
+  -- a head announces 1 to 16 inputs and at most 240 gates
+  limits : Rule
+  -- a function code is at most 7
+  code : Rule
+  -- BUF and NOT have exactly one pin, the others at least two
+  count : Rule
+  -- each pin is a net lower than the gate's own
+  lower : Rule
+  -- the least delay is not above the greatest
+  delays : Rule
+
+-- the number of the refusal for a broken rule
+abbrev pub number : Rule → ℕ
+number whole = 3
+number kind = 4
+number size = 5
+number limits = 6
+number code = 7
+number count = 8
+number lower = 9
+number delays = 11
+
+-- the letter of the layer that finds it: R, the reader, or C, the circuit
+abbrev pub layer : Rule → ℕ
+layer whole = 82
+layer kind = 67
+layer size = 67
+layer limits = 67
+layer code = 67
+layer count = 67
+layer lower = 67
+layer delays = 67
+
+-- the fields of the gate whose record these bytes begin with
+abbrev pub codeOf : List ℕ → ℕ
+codeOf bs = getD (payloadOf bs) 0 0
+
+abbrev pub leastOf : List ℕ → ℕ
+leastOf bs = two (getD (payloadOf bs) 1 0) (getD (payloadOf bs) 2 0)
+
+abbrev pub greatestOf : List ℕ → ℕ
+greatestOf bs = two (getD (payloadOf bs) 3 0) (getD (payloadOf bs) 4 0)
+
+abbrev pub pinsOf : List ℕ → List ℕ
+pinsOf bs = drop 5 (payloadOf bs)
+
+-- the kind that is due
+abbrev pub kindDue : Due → ℕ
+kindDue head = 1
+kindDue (gate own) = 2
+
+-- the payload's length is one that is due
+abbrev pub sizeDue : Due → ℕ → Bool
+sizeDue head n = eqb n 2
+sizeDue (gate own) n = leb 6 n && leb n 13
+
+-- the pin count is one that the function of this code has
+abbrev pub countDue : ℕ → ℕ → Bool
+countDue c n = cond (ltb c 2) (eqb n 1) (leb 2 n)
+
+-- the nets that a pin may be: those below the gate's own
+abbrev pub limitDue : Due → ℕ
+limitDue head = 0
+limitDue (gate own) = own
+
+-- the record that these bytes begin with keeps the rule
+abbrev pub keeps : Due → List ℕ → Rule → Bool
+keeps due bs whole = not (cutShort bs)
+keeps due bs kind = eqb (kindOf bs) (kindDue due)
+keeps due bs size = sizeDue due (lengthOf bs)
+keeps due bs limits = goodHead (getD (payloadOf bs) 0 0) (getD (payloadOf bs) 1 0)
+keeps due bs code = leb (codeOf bs) 7
+keeps due bs count = countDue (codeOf bs) (length (pinsOf bs))
+keeps due bs lower = allBelow (limitDue due) (pinsOf bs)
+keeps due bs delays = leb (leastOf bs) (greatestOf bs)
+
+-- the rules for what is due, in the order in which they are checked
+abbrev pub checks : Due → List Rule
+checks head = whole ∷ kind ∷ size ∷ limits ∷ []
+checks (gate own) = whole ∷ kind ∷ size ∷ code ∷ count ∷ lower ∷ delays ∷ []
+
+-- the first of these rules that the record breaks, if it breaks one
+abbrev pub firstOf : Due → List ℕ → List Rule → Option Rule
+firstOf due bs [] = None
+firstOf due bs (r ∷ rs) = cond (keeps due bs r) (firstOf due bs rs) (Some r)
+
+-- the first rule that the record breaks
+abbrev pub firstBroken : Due → List ℕ → Option Rule
+firstBroken due bs = firstOf due bs (checks due)

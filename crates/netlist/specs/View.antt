@@ -1,0 +1,11 @@
+-- The circuits of the program as plain values. Assumes nothing.
+use mathlib.Core.List.{List, map}
+use Rattle.std.specs.Of.Vec.{vec-items}
+use Rattle.netlist.specs.declared.gate.Gate.{Gate}
+use Rattle.netlist.specs.declared.circuit.Circuit.{Circuit}
+use Rattle.netlist.specs.Circuit.{PlainGate, PlainCircuit}
+use Rattle.netlist.specs.Plain.{plainGate, plainGates}
+
+-- a circuit of the program, as a plain value
+abbrev pub plain : Circuit → PlainCircuit
+plain c = record { inputs = c .inputs; gates = plainGates (vec-items (c .gates)) }
