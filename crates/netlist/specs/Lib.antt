@@ -6,4 +6,5 @@ pub mod Plain
 pub mod View
 pub mod Fault
 pub mod Next
+pub mod Step
 pub mod Outcome

@@ -2,9 +2,9 @@
 use mathlib.Core.Path.{_≡_}
 use mathlib.Core.Bool.{true, false}
 use mathlib.Core.List.{List}
-use Prim.Native.Nat.{ℕ, _+_}
+use Prim.Native.Nat.{ℕ, _+_, _<_}
 use denote.Ref.{now}
-use lib.ListN.{length, drop}
+use lib.ListN.{length, drop, getD}
 use Rattle.netlist.specs.declared.reader.Reader.{Reader}
 use Rattle.netlist.specs.declared.reader.Record.{Record}
 use Rattle.netlist.specs.declared.fault.RecordFault.{RecordFault}
@@ -23,6 +23,9 @@ pub record Taken (before after : Reader) (r : Record) : Type 0 where
   pub payload : now (r .payload) ≡ payloadOf (rest before)
   pub size : length (now (r .payload)) ≡ lengthOf (rest before)
   pub moved : after .at ≡ before .at + 4 + lengthOf (rest before)
+  -- the low bytes of length and kind are bytes
+  pub low-length : getD (rest before) 0 0 < 256
+  pub low-kind : getD (rest before) 2 0 < 256
   pub same : now (after .bytes) ≡ now (before .bytes)
 
 -- the record is cut short; the reader is as it was

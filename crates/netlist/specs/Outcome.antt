@@ -13,7 +13,8 @@ use Rattle.netlist.specs.declared.fault.CircuitFault.{CircuitFault}
 use Rattle.netlist.specs.Circuit.{PlainGate, PlainCircuit, validCircuit, validGates, goodHead}
 use Rattle.netlist.specs.Layout.{headBytes, gatesBytes, layout}
 use Rattle.netlist.specs.Rules.{Due, head, gate, Rule, firstBroken}
-use Rattle.netlist.specs.Fault.{Refusal, refusal, refusalOf}
+use Rattle.netlist.specs.declared.fault.Refusal.{Refusal}
+use Rattle.netlist.specs.Fault.{refusal, refusalOf}
 use Rattle.netlist.specs.View.{plain}
 
 -- accepted as a circuit with so many bytes used, or refused

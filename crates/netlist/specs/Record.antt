@@ -7,7 +7,7 @@ use lib.ListN.{length, getD, take, drop}
 
 -- the number in two bytes, the low one first
 abbrev pub two : ℕ → ℕ → ℕ
-two low high = low + 256 * high
+two low high = low + high * 256
 
 -- of the record that these bytes begin with: the length of its payload
 abbrev pub lengthOf : List ℕ → ℕ

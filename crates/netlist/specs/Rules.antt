@@ -1,13 +1,13 @@
 -- The rules that each record of a circuit file keeps, with their numbers, and the order in which they are checked. Assumes nothing.
-use mathlib.Core.Bool.{Bool, true, false, not, _&&_, _||_, cond}
+use mathlib.Core.Bool.{Bool, true, false, _&&_, cond}
 use mathlib.Core.List.{List, [], _∷_}
-use Prim.Native.Nat.{ℕ, _-_}
+use Prim.Native.Nat.{ℕ}
 use lib.Dec.{leb, ltb, eqb}
 use lib.ListN.{length, getD, drop}
 use Rattle.std.specs.declared.option.Option.{Option}
 use Rattle.std.specs.declared.option.Option.the-variants.{Some, None}
 use Rattle.netlist.specs.Circuit.{allBelow, goodHead}
-use Rattle.netlist.specs.Record.{two, lengthOf, kindOf, payloadOf, cutShort}
+use Rattle.netlist.specs.Record.{two, kindOf, payloadOf, cutShort}
 
 -- what is due at a place of the file: the head, or a gate with this number for its own net
 pub data Due : Type 0 where
@@ -55,18 +55,21 @@ layer count = 67
 layer lower = 67
 layer delays = 67
 
--- the fields of the gate whose record these bytes begin with
+-- the fields of a gate's payload: its function code
 abbrev pub codeOf : List ℕ → ℕ
-codeOf bs = getD (payloadOf bs) 0 0
+codeOf payload = getD payload 0 0
 
+-- its least delay
 abbrev pub leastOf : List ℕ → ℕ
-leastOf bs = two (getD (payloadOf bs) 1 0) (getD (payloadOf bs) 2 0)
+leastOf payload = two (getD payload 1 0) (getD payload 2 0)
 
+-- its greatest delay
 abbrev pub greatestOf : List ℕ → ℕ
-greatestOf bs = two (getD (payloadOf bs) 3 0) (getD (payloadOf bs) 4 0)
+greatestOf payload = two (getD payload 3 0) (getD payload 4 0)
 
+-- its pins: all that follows
 abbrev pub pinsOf : List ℕ → List ℕ
-pinsOf bs = drop 5 (payloadOf bs)
+pinsOf payload = drop 5 payload
 
 -- the kind that is due
 abbrev pub kindDue : Due → ℕ
@@ -87,27 +90,27 @@ abbrev pub limitDue : Due → ℕ
 limitDue head = 0
 limitDue (gate own) = own
 
--- the record that these bytes begin with keeps the rule
-abbrev pub keeps : Due → List ℕ → Rule → Bool
-keeps due bs whole = not (cutShort bs)
-keeps due bs kind = eqb (kindOf bs) (kindDue due)
-keeps due bs size = sizeDue due (lengthOf bs)
-keeps due bs limits = goodHead (getD (payloadOf bs) 0 0) (getD (payloadOf bs) 1 0)
-keeps due bs code = leb (codeOf bs) 7
-keeps due bs count = countDue (codeOf bs) (length (pinsOf bs))
-keeps due bs lower = allBelow (limitDue due) (pinsOf bs)
-keeps due bs delays = leb (leastOf bs) (greatestOf bs)
+-- a whole record of this kind with this payload keeps the rule
+abbrev pub keeps : Due → ℕ → List ℕ → Rule → Bool
+keeps due k payload whole = true
+keeps due k payload kind = eqb k (kindDue due)
+keeps due k payload size = sizeDue due (length payload)
+keeps due k payload limits = goodHead (getD payload 0 0) (getD payload 1 0)
+keeps due k payload code = leb (codeOf payload) 7
+keeps due k payload count = countDue (codeOf payload) (length (pinsOf payload))
+keeps due k payload lower = allBelow (limitDue due) (pinsOf payload)
+keeps due k payload delays = leb (leastOf payload) (greatestOf payload)
 
--- the rules for what is due, in the order in which they are checked
+-- the rules for a whole record, in the order in which they are checked
 abbrev pub checks : Due → List Rule
-checks head = whole ∷ kind ∷ size ∷ limits ∷ []
-checks (gate own) = whole ∷ kind ∷ size ∷ code ∷ count ∷ lower ∷ delays ∷ []
+checks head = kind ∷ size ∷ limits ∷ []
+checks (gate own) = kind ∷ size ∷ code ∷ count ∷ lower ∷ delays ∷ []
 
 -- the first of these rules that the record breaks, if it breaks one
-abbrev pub firstOf : Due → List ℕ → List Rule → Option Rule
-firstOf due bs [] = None
-firstOf due bs (r ∷ rs) = cond (keeps due bs r) (firstOf due bs rs) (Some r)
+abbrev pub firstOf : Due → ℕ → List ℕ → List Rule → Option Rule
+firstOf due k payload [] = None
+firstOf due k payload (r ∷ rs) = cond (keeps due k payload r) (firstOf due k payload rs) (Some r)
 
--- the first rule that the record breaks
+-- the first rule that the record at the front of these bytes breaks; that it is whole is checked first
 abbrev pub firstBroken : Due → List ℕ → Option Rule
-firstBroken due bs = firstOf due bs (checks due)
+firstBroken due bs = cond (cutShort bs) (Some whole) (firstOf due (kindOf bs) (payloadOf bs) (checks due))

@@ -5,6 +5,8 @@ ghost use Rattle.netlist.specs.Circuit.{validCircuit};
 ghost use Rattle.netlist.specs.Plain.{plainGates};
 use crate::gate::Gate;
 
+mod read;
+
 #[derive(Drop)]
 pub struct Circuit {
     inputs: u8,

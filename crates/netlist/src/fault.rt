@@ -1,4 +1,17 @@
 // Why a circuit file is refused: a record fault inside a circuit fault.
+ghost use mathlib.Core.Path.{_≡_};
+ghost use Rattle.netlist.specs.Fault.{refusalOf, recordRefusal};
+ghost use Rattle.netlist.specs.declared.fault.CircuitFault.the-variants.{Record, Memory};
+use std::alloc::AllocError;
+use std::alloc::Refused;
+
+// A refusal: its number, the letter of the layer that found it, and the place of the record in the file.
+#[derive(Clone, Copy, Debug)]
+pub struct Refusal {
+    pub number: u8,
+    pub layer: char,
+    pub place: usize,
+}
 
 // A fault of the reader.
 #[derive(Clone, Copy, Debug)]
@@ -7,16 +20,85 @@ pub enum RecordFault {
     CutShort { place: usize },
 }
 
-// A fault of the circuit file, at the place of the record that has it.
+// A fault of the circuit file, with the place of the record that has it.
 #[derive(Clone, Copy, Debug)]
 pub enum CircuitFault {
     Record(RecordFault),
+    // the kind is not the one due here
     Kind { place: usize },
+    // the payload's size is not one of a head or of a gate
     Size { place: usize },
+    // the head announces too few or too many inputs, or too many gates
     Limits { place: usize },
+    // no function has this code
     Code { place: usize },
+    // the function does not take this many pins
     PinCount { place: usize },
+    // a pin is not lower than the gate's own net
     Pin { place: usize },
+    // the least delay is above the greatest
     Delays { place: usize },
+    // there was no memory for the circuit
     Memory,
+}
+
+pub impl From<RecordFault> for CircuitFault as CircuitFaultFromRecord {
+    ghost converts = { λ e r. r ≡ Record e };
+
+    fn from(e: RecordFault) -> CircuitFault {
+        CircuitFault::Record(e)
+    }
+}
+
+pub impl From<AllocError> for CircuitFault as CircuitFaultFromAlloc {
+    ghost converts = { λ e r. r ≡ Memory };
+
+    fn from(_e: AllocError) -> CircuitFault {
+        CircuitFault::Memory
+    }
+}
+
+pub impl<T: Drop> From<Refused<T>> for CircuitFault as CircuitFaultFromRefused {
+    ghost converts = { λ e r. r ≡ Memory };
+
+    fn from(_e: Refused<T>) -> CircuitFault {
+        CircuitFault::Memory
+    }
+}
+
+impl RecordFault {
+    pub fn refusal(self) -> Refusal
+        ensures { λ r. ⌜ r ≡ recordRefusal self ⌝ }
+    {
+        let RecordFault::CutShort { place } = self;
+        Refusal {
+            number: 3,
+            layer: 'R',
+            place,
+        }
+    }
+}
+
+impl CircuitFault {
+    // The refusal that the fault stands for, or none for want of memory.
+    pub fn refusal(self) -> Option<Refusal>
+        ensures { λ r. ⌜ r ≡ refusalOf self ⌝ }
+    {
+        let (number, place) = match self {
+            CircuitFault::Record(fault) => return Some(fault.refusal()),
+            CircuitFault::Kind { place } => (4, place),
+            CircuitFault::Size { place } => (5, place),
+            CircuitFault::Limits { place } => (6, place),
+            CircuitFault::Code { place } => (7, place),
+            CircuitFault::PinCount { place } => (8, place),
+            CircuitFault::Pin { place } => (9, place),
+            CircuitFault::Delays { place } => (11, place),
+            CircuitFault::Memory => return None,
+        };
+        Some(Refusal {
+            number,
+            layer: 'C',
+            place,
+        })
+    }
 }

@@ -3,7 +3,7 @@ ghost use Prim.Native.Nat.{_≤_, _+_};
 ghost use denote.Ref.{now as pointee};
 ghost use lib.ListN.{length};
 
-//mod next;
+mod next;
 
 #[derive(Drop)]
 pub struct Reader<'a> {

@@ -1,0 +1,27 @@
+use mathlib.Core.Path.{_≡_, sym, _∙_}
+use mathlib.Core.Bool.{_&&_}
+use mathlib.Core.List.{List}
+use Prim.Native.Nat.{ℕ, _+_, _<_}
+use lib.Dec.{ltb}
+use lib.ListN.{length, drop, getD}
+use Rattle.std.proofs.shelf.Lists.{at-drop-more, at-drop-all}
+use Rattle.std.proofs.shelf.Tests.{lt-ltb, le-ltb}
+use Rattle.netlist.specs.Circuit.{allBelow}
+use Rattle.netlist.proofs.circuit.read.all_below.Needs as need
+
+-- the pin at hand and those behind it
+next-pin : (n : ℕ) (xs : List ℕ) (i : ℕ) → i < length xs → allBelow n (drop i xs) ≡ (ltb (getD xs i 0) n && allBelow n (drop (i + 1) xs))
+next-pin n xs i h = at-drop-more (allBelow n) xs i 0 h
+
+pub loop-pin-again : need.loop-pin-again
+loop-pin-again c =
+    let low = lt-ltb _ _ (c .if-pin-limit .left) in
+    c .loop-pin .inv ∙ rw low at (next-pin (c .args .limit) (c .args .pins .now) (c .loop-pin .pin-index) (c .loop-pin-test .taken))
+
+pub returns-then-pin-limit : need.returns-then-pin-limit
+returns-then-pin-limit c =
+    let high = le-ltb _ _ (c .if-pin-limit .taken) in
+    sym (c .loop-pin .inv ∙ rw high at (next-pin (c .args .limit) (c .args .pins .now) (c .loop-pin .pin-index) (c .loop-pin-test .taken)))
+
+pub returns : need.returns
+returns c = sym (c .loop-pin .inv ∙ at-drop-all (allBelow (c .args .limit)) _ _ (c .loop-pin-test .left))

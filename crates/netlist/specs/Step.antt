@@ -1,0 +1,56 @@
+-- What taking one record off the reader comes to, for a head and for a gate. Assumes nothing.
+use mathlib.Core.Path.{_≡_}
+use mathlib.Core.Bool.{true, false}
+use mathlib.Core.Logic.{_⊎_}
+use mathlib.Core.List.{List}
+use Prim.Native.Nat.{ℕ, _+_, _<_}
+use denote.Ref.{now}
+use lib.Dec.{leb}
+use lib.ListN.{getD}
+use Rattle.std.specs.Of.Vec.{vec-items}
+use Rattle.std.specs.declared.option.Option.{Option}
+use Rattle.std.specs.declared.option.Option.the-variants.{Some, None}
+use Rattle.waveform.specs.Function.{described}
+use Rattle.netlist.specs.declared.reader.Reader.{Reader}
+use Rattle.netlist.specs.declared.gate.Gate.{Gate}
+use Rattle.netlist.specs.declared.fault.CircuitFault.{CircuitFault}
+use Rattle.netlist.specs.declared.fault.CircuitFault.the-variants.{Code, PinCount}
+use Rattle.netlist.specs.Record.{lengthOf, payloadOf}
+use Rattle.netlist.specs.Rules.{Due, Rule, codeOf, leastOf, greatestOf, pinsOf, countDue, firstBroken}
+use Rattle.netlist.specs.Fault.{ruleOf, placeOf}
+use Rattle.netlist.specs.Next.{rest}
+
+-- the place that is told with a rule
+abbrev pub placeTold : Option Rule → ℕ → ℕ
+placeTold None place = 0
+placeTold (Some r) place = place
+
+-- the rule is the one that is broken
+abbrev pub TellsRule : Option Rule → Option Rule → Type 0
+TellsRule None broken = Unit {0}
+TellsRule (Some r) broken = broken ≡ Some r
+
+-- the fault tells the first rule that the record breaks, and its place, unless memory was wanting
+abbrev pub Tells : CircuitFault → Option Rule → ℕ → Type 0
+Tells e broken place = TellsRule (ruleOf e) broken × (placeOf e ≡ placeTold (ruleOf e) place)
+
+-- the record keeps every rule and the reader has moved past it
+pub record Passed (due : Due) (before after : Reader) : Type 0 where
+  pub kept : firstBroken due (rest before) ≡ None
+  pub moved : after .at ≡ before .at + 4 + lengthOf (rest before)
+  pub same : now (after .bytes) ≡ now (before .bytes)
+
+-- the gate is the one that the payload describes
+pub record Describes (payload : List ℕ) (g : Gate) : Type 0 where
+  pub code : described (g .function) .code ≡ codeOf payload
+  pub least : g .least ≡ leastOf payload
+  pub greatest : g .greatest ≡ greatestOf payload
+  pub pins : vec-items (g .pins) ≡ pinsOf payload
+  -- the low bytes of the delays are bytes
+  pub low-least : getD payload 1 0 < 256
+  pub low-greatest : getD payload 3 0 < 256
+
+-- no function has this code, or the function of this code does not take so many pins
+abbrev pub FunctionFault : CircuitFault → ℕ → ℕ → ℕ → Type 0
+FunctionFault e place c pins =
+    ((e ≡ Code place) × (leb c 7 ≡ false)) ⊎ ((e ≡ PinCount place) × (leb c 7 ≡ true) × (countDue c pins ≡ false))

@@ -1,0 +1,102 @@
+// Reading a circuit file, record after record.
+ghost use mathlib.Core.Path.{_≡_};
+ghost use mathlib.Core.Bool.{true};
+ghost use lib.Dec.{leb};
+ghost use lib.ListN.{length, getD};
+ghost use Rattle.std.specs.Options;
+ghost use Rattle.std.specs.Results.{Cases};
+ghost use Rattle.std.specs.declared.option.Option.the-variants.{None};
+ghost use Rattle.waveform.specs.Function.{described};
+ghost use Rattle.netlist.specs.Circuit.{allBelow, goodHead};
+ghost use Rattle.netlist.specs.Record.{payloadOf};
+ghost use Rattle.netlist.specs.Rules.{head, gate, checks, firstOf, codeOf, leastOf, greatestOf, pinsOf, sizeDue, countDue};
+ghost use Rattle.netlist.specs.Next.{rest};
+ghost use Rattle.netlist.specs.Step.{FunctionFault, Tells, Passed, Describes};
+use crate::circuit::Circuit;
+use crate::fault::CircuitFault;
+use crate::fault::CircuitFaultFromAlloc;
+use crate::fault::CircuitFaultFromRecord;
+use crate::gate::Gate;
+use crate::gate::Net;
+use crate::reader::Reader;
+use std::alloc::Global;
+use waveform::Function;
+
+// Whether every pin is a net below the limit.
+fn all_below(pins: &[Net], limit: usize) -> bool
+    ensures { λ r. ⌜ r ≡ allBelow limit (now (pins .entry)) ⌝ }
+{
+    for pin in pins {
+        if *pin as usize >= limit {
+            return false;
+        }
+    }
+    true
+}
+
+// The function of this code for so many pins.
+fn function_of(place: usize, code: u8, pins: usize) -> Result<Function, CircuitFault>
+    ensures { λ r. ⌜ Cases r (λ f. (described f .code ≡ code) × (leb code 7 ≡ true) × (countDue code pins ≡ true)) (λ e. FunctionFault e place code pins) ⌝ }
+{
+    match code {
+        0 if pins == 1 => Ok(Function::Buf),
+        1 if pins == 1 => Ok(Function::Not),
+        2 if pins >= 2 => Ok(Function::And),
+        3 if pins >= 2 => Ok(Function::Nand),
+        4 if pins >= 2 => Ok(Function::Or),
+        5 if pins >= 2 => Ok(Function::Nor),
+        6 if pins >= 2 => Ok(Function::Xor),
+        7 if pins >= 2 => Ok(Function::Xnor),
+        0..=7 => Err(CircuitFault::PinCount { place }),
+        _ => Err(CircuitFault::Code { place }),
+    }
+}
+
+// A gate's payload taken apart.
+#[derive(Drop)]
+struct Fields<'a> {
+    code: u8,
+    least: u16,
+    greatest: u16,
+    pins: &'a [Net],
+}
+
+// The fields of a gate's payload, or none if it has no byte for a pin or too many.
+fn fields(payload: &[u8]) -> Option<Fields<'_>>
+    ensures { λ r. ⌜ Options.Cases r (sizeDue (gate 0) (length (now (payload .entry))) ≡ false) (λ f. (sizeDue (gate 0) (length (now (payload .entry))) ≡ true) × (f .code ≡ codeOf (now (payload .entry))) × (f .least ≡ leastOf (now (payload .entry))) × (f .greatest ≡ greatestOf (now (payload .entry))) × (now (f .pins) ≡ pinsOf (now (payload .entry)))) ⌝ }
+{
+    let [code, least_low, least_high, greatest_low, greatest_high, pins @ ..] = payload else {
+        return None;
+    };
+    if pins.is_empty() || pins.len() > 8 {
+        return None;
+    }
+    Some(Fields {
+        code: *code,
+        least: u16::from_le_bytes([*least_low, *least_high]),
+        greatest: u16::from_le_bytes([*greatest_low, *greatest_high]),
+        pins,
+    })
+}
+
+// The gate that a payload describes, its own net having the number `own`.
+fn gate_from(heap: Global, place: usize, payload: &[u8], own: usize) -> Result<Gate, CircuitFault>
+    ensures { λ r. ⌜ Cases r (λ g. (firstOf (gate own) 2 (now (payload .entry)) (checks (gate own)) ≡ None) × Describes (now (payload .entry)) g) (λ e. Tells e (firstOf (gate own) 2 (now (payload .entry)) (checks (gate own))) place) ⌝ }
+{
+    let Some(fields) = fields(payload) else {
+        return Err(CircuitFault::Size { place });
+    };
+    let function = function_of(place, fields.code, fields.pins.len())?;
+    if !all_below(fields.pins, own) {
+        return Err(CircuitFault::Pin { place });
+    }
+    if fields.least > fields.greatest {
+        return Err(CircuitFault::Delays { place });
+    }
+    Ok(Gate {
+        function,
+        least: fields.least,
+        greatest: fields.greatest,
+        pins: Vec::from_slice(heap, fields.pins)?,
+    })
+}
