@@ -1,3 +1,4 @@
 pub mod Waveform
 pub mod GateRule
 pub mod Theorems
+pub mod Holding
