@@ -6,17 +6,19 @@ use mathlib.Core.List.{List}
 use Prim.Native.Nat.{ℕ, _+_, _<_}
 use denote.Ref.{now}
 use lib.Dec.{leb}
-use lib.ListN.{getD}
+use lib.ListN.{length, getD}
 use Rattle.std.specs.Of.Vec.{vec-items}
 use Rattle.std.specs.declared.option.Option.{Option}
 use Rattle.std.specs.declared.option.Option.the-variants.{Some, None}
 use Rattle.waveform.specs.Function.{described}
 use Rattle.netlist.specs.declared.reader.Reader.{Reader}
 use Rattle.netlist.specs.declared.gate.Gate.{Gate}
+use Rattle.netlist.specs.declared.circuit.read.GateFields.{GateFields}
+use Rattle.netlist.specs.declared.circuit.read.Head.{Head}
 use Rattle.netlist.specs.declared.fault.CircuitFault.{CircuitFault}
 use Rattle.netlist.specs.declared.fault.CircuitFault.the-variants.{Code, PinCount}
 use Rattle.netlist.specs.Record.{lengthOf, payloadOf}
-use Rattle.netlist.specs.Rules.{Due, Rule, codeOf, leastOf, greatestOf, pinsOf, countDue, firstBroken}
+use Rattle.netlist.specs.Rules.{Due, gate, Rule, sizeDue, codeOf, leastOf, greatestOf, pinsOf, countDue, firstBroken}
 use Rattle.netlist.specs.Fault.{ruleOf, placeOf}
 use Rattle.netlist.specs.Next.{rest}
 
@@ -37,8 +39,16 @@ Tells e broken place = TellsRule (ruleOf e) broken × (placeOf e ≡ placeTold (
 -- the record keeps every rule and the reader has moved past it
 pub record Passed (due : Due) (before after : Reader) : Type 0 where
   pub kept : firstBroken due (rest before) ≡ None
+  -- the low bytes of length and kind are bytes
+  pub low-length : getD (rest before) 0 0 < 256
+  pub low-kind : getD (rest before) 2 0 < 256
   pub moved : after .at ≡ before .at + 4 + lengthOf (rest before)
   pub same : now (after .bytes) ≡ now (before .bytes)
+
+-- the head announces what its payload says
+pub record Announces (payload : List ℕ) (h : Head) : Type 0 where
+  pub inputs : h .inputs ≡ getD payload 0 0
+  pub gates : h .gates ≡ getD payload 1 0
 
 -- the gate is the one that the payload describes
 pub record Describes (payload : List ℕ) (g : Gate) : Type 0 where
@@ -49,6 +59,14 @@ pub record Describes (payload : List ℕ) (g : Gate) : Type 0 where
   -- the low bytes of the delays are bytes
   pub low-least : getD payload 1 0 < 256
   pub low-greatest : getD payload 3 0 < 256
+
+-- the payload has a gate's size, and these are its fields
+pub record FieldsOf (payload : List ℕ) (f : GateFields) : Type 0 where
+  pub size : sizeDue (gate 0) (length payload) ≡ true
+  pub code : f .code ≡ codeOf payload
+  pub least : f .least ≡ leastOf payload
+  pub greatest : f .greatest ≡ greatestOf payload
+  pub pins : now (f .pins) ≡ pinsOf payload
 
 -- no function has this code, or the function of this code does not take so many pins
 abbrev pub FunctionFault : CircuitFault → ℕ → ℕ → ℕ → Type 0

@@ -1,6 +1,6 @@
 // Reading a circuit file, record after record.
 ghost use mathlib.Core.Path.{_≡_};
-ghost use mathlib.Core.Bool.{true};
+ghost use mathlib.Core.Bool.{true, false};
 ghost use lib.Dec.{leb};
 ghost use lib.ListN.{length, getD};
 ghost use Rattle.std.specs.Options;
@@ -9,9 +9,9 @@ ghost use Rattle.std.specs.declared.option.Option.the-variants.{None};
 ghost use Rattle.waveform.specs.Function.{described};
 ghost use Rattle.netlist.specs.Circuit.{allBelow, goodHead};
 ghost use Rattle.netlist.specs.Record.{payloadOf};
-ghost use Rattle.netlist.specs.Rules.{head, gate, checks, firstOf, codeOf, leastOf, greatestOf, pinsOf, sizeDue, countDue};
+ghost use Rattle.netlist.specs.Rules.{head, gate, checks, firstOf, firstBroken, sizeDue, countDue};
 ghost use Rattle.netlist.specs.Next.{rest};
-ghost use Rattle.netlist.specs.Step.{FunctionFault, Tells, Passed, Describes};
+ghost use Rattle.netlist.specs.Step.{Announces, FieldsOf, FunctionFault, Tells, Passed, Describes};
 use crate::circuit::Circuit;
 use crate::fault::CircuitFault;
 use crate::fault::CircuitFaultFromAlloc;
@@ -54,7 +54,7 @@ fn function_of(place: usize, code: u8, pins: usize) -> Result<Function, CircuitF
 
 // A gate's payload taken apart.
 #[derive(Drop)]
-struct Fields<'a> {
+struct GateFields<'a> {
     code: u8,
     least: u16,
     greatest: u16,
@@ -62,8 +62,8 @@ struct Fields<'a> {
 }
 
 // The fields of a gate's payload, or none if it has no byte for a pin or too many.
-fn fields(payload: &[u8]) -> Option<Fields<'_>>
-    ensures { λ r. ⌜ Options.Cases r (sizeDue (gate 0) (length (now (payload .entry))) ≡ false) (λ f. (sizeDue (gate 0) (length (now (payload .entry))) ≡ true) × (f .code ≡ codeOf (now (payload .entry))) × (f .least ≡ leastOf (now (payload .entry))) × (f .greatest ≡ greatestOf (now (payload .entry))) × (now (f .pins) ≡ pinsOf (now (payload .entry)))) ⌝ }
+fn fields(payload: &[u8]) -> Option<GateFields<'_>>
+    ensures { λ r. ⌜ Options.Cases r (sizeDue (gate 0) (length (now (payload .entry))) ≡ false) (λ f. FieldsOf (now (payload .entry)) f) ⌝ }
 {
     let [code, least_low, least_high, greatest_low, greatest_high, pins @ ..] = payload else {
         return None;
@@ -71,7 +71,7 @@ fn fields(payload: &[u8]) -> Option<Fields<'_>>
     if pins.is_empty() || pins.len() > 8 {
         return None;
     }
-    Some(Fields {
+    Some(GateFields {
         code: *code,
         least: u16::from_le_bytes([*least_low, *least_high]),
         greatest: u16::from_le_bytes([*greatest_low, *greatest_high]),
@@ -99,4 +99,45 @@ fn gate_from(heap: Global, place: usize, payload: &[u8], own: usize) -> Result<G
         greatest: fields.greatest,
         pins: Vec::from_slice(heap, fields.pins)?,
     })
+}
+
+// What the head announces.
+#[derive(Clone, Copy)]
+struct Head {
+    inputs: u8,
+    gates: u8,
+}
+
+// The head, at the reader's place.
+fn read_head(reader: &mut Reader<'_>) -> Result<Head, CircuitFault>
+    ensures { λ r. ⌜ Cases r (λ h. Passed head (now (reader .entry)) (now (reader .exit)) × Announces (payloadOf (rest (now (reader .entry)))) h) (λ e. Tells e (firstBroken head (rest (now (reader .entry)))) (now (reader .entry) .at)) ⌝ }
+{
+    let record = reader.next()?;
+    let place = record.place;
+    if record.kind != 1 {
+        return Err(CircuitFault::Kind { place });
+    }
+    let [inputs, gates] = record.payload else {
+        return Err(CircuitFault::Size { place });
+    };
+    if *inputs < 1 || *inputs > 16 || *gates > 240 {
+        return Err(CircuitFault::Limits { place });
+    }
+    Ok(Head {
+        inputs: *inputs,
+        gates: *gates,
+    })
+}
+
+// The gate at the reader's place, its own net having the number `own`.
+fn read_gate(heap: Global, reader: &mut Reader<'_>, own: usize) -> Result<Gate, CircuitFault>
+    ensures { λ r. ⌜ Cases r (λ g. Passed (gate own) (now (reader .entry)) (now (reader .exit)) × Describes (payloadOf (rest (now (reader .entry)))) g) (λ e. Tells e (firstBroken (gate own) (rest (now (reader .entry)))) (now (reader .entry) .at)) ⌝ }
+{
+    let record = reader.next()?;
+    if record.kind != 2 {
+        return Err(CircuitFault::Kind {
+            place: record.place,
+        });
+    }
+    gate_from(heap, record.place, record.payload, own)
 }
