@@ -2,11 +2,11 @@
 use mathlib.Core.Path.{_≡_}
 use mathlib.Core.Bool.{true, false}
 use mathlib.Core.Logic.{_⊎_}
-use mathlib.Core.List.{List}
-use Prim.Native.Nat.{ℕ, _+_, _<_}
+use mathlib.Core.List.{List, _++_}
+use Prim.Native.Nat.{ℕ, _+_, _≤_, _<_}
 use denote.Ref.{now}
-use lib.Dec.{leb}
-use lib.ListN.{length, getD}
+use lib.Dec.{T, leb}
+use lib.ListN.{length, getD, drop}
 use Rattle.std.specs.Of.Vec.{vec-items}
 use Rattle.std.specs.declared.option.Option.{Option}
 use Rattle.std.specs.declared.option.Option.the-variants.{Some, None}
@@ -17,6 +17,8 @@ use Rattle.netlist.specs.declared.circuit.read.GateFields.{GateFields}
 use Rattle.netlist.specs.declared.circuit.read.Head.{Head}
 use Rattle.netlist.specs.declared.fault.CircuitFault.{CircuitFault}
 use Rattle.netlist.specs.declared.fault.CircuitFault.the-variants.{Code, PinCount}
+use Rattle.netlist.specs.Circuit.{PlainGate, validGates}
+use Rattle.netlist.specs.Layout.{gatesBytes}
 use Rattle.netlist.specs.Record.{lengthOf, payloadOf}
 use Rattle.netlist.specs.Rules.{Due, gate, Rule, sizeDue, codeOf, leastOf, greatestOf, pinsOf, countDue, firstBroken}
 use Rattle.netlist.specs.Fault.{ruleOf, placeOf}
@@ -56,9 +58,10 @@ pub record Describes (payload : List ℕ) (g : Gate) : Type 0 where
   pub least : g .least ≡ leastOf payload
   pub greatest : g .greatest ≡ greatestOf payload
   pub pins : vec-items (g .pins) ≡ pinsOf payload
-  -- the low bytes of the delays are bytes
+  -- the low bytes of the delays are bytes, and a delay fits two bytes
   pub low-least : getD payload 1 0 < 256
   pub low-greatest : getD payload 3 0 < 256
+  pub most : g .greatest ≤ 65535
 
 -- the payload has a gate's size, and these are its fields
 pub record FieldsOf (payload : List ℕ) (f : GateFields) : Type 0 where
@@ -72,3 +75,26 @@ pub record FieldsOf (payload : List ℕ) (f : GateFields) : Type 0 where
 abbrev pub FunctionFault : CircuitFault → ℕ → ℕ → ℕ → Type 0
 FunctionFault e place c pins =
     ((e ≡ Code place) × (leb c 7 ≡ false)) ⊎ ((e ≡ PinCount place) × (leb c 7 ≡ true) × (countDue c pins ≡ false))
+
+-- the gates from a place on: valid ones, written out up to another place
+pub record GatesTaken (bytes : List ℕ) (place own : ℕ) (gates : List PlainGate) (after : ℕ) : Type 0 where
+  pub valid : T (validGates own gates)
+  pub stands : drop place bytes ≡ gatesBytes gates ++ drop after bytes
+  pub moved : after ≡ place + length (gatesBytes gates)
+
+-- behind fewer gates than were announced, the record that follows breaks this rule first
+pub record Stopped (rule : Rule) (told : ℕ) (bytes : List ℕ) (place own announced : ℕ) : Type 0 where
+  pub gates : List PlainGate
+  pub after : ℕ
+  pub fewer : length gates < announced
+  pub taken : GatesTaken bytes place own gates after
+  pub broken : firstBroken (gate (own + length gates)) (drop after bytes) ≡ Some rule
+  pub there : told ≡ after
+
+abbrev pub StopsBy : Option Rule → ℕ → List ℕ → ℕ → ℕ → ℕ → Type 0
+StopsBy None told bytes place own announced = Unit {0}
+StopsBy (Some rule) told bytes place own announced = Stopped rule told bytes place own announced
+
+-- the fault tells where and why the gates stop, unless memory was wanting
+abbrev pub Stops : CircuitFault → List ℕ → ℕ → ℕ → ℕ → Type 0
+Stops e bytes place own announced = StopsBy (ruleOf e) (placeOf e) bytes place own announced

@@ -3,19 +3,22 @@ ghost use mathlib.Core.Path.{_≡_};
 ghost use mathlib.Core.Bool.{true, false};
 ghost use lib.Dec.{leb};
 ghost use lib.ListN.{length, getD};
+ghost use Rattle.std.specs.Of.Vec.{vec-items, vec-len};
 ghost use Rattle.std.specs.Options;
 ghost use Rattle.std.specs.Results.{Cases};
 ghost use Rattle.std.specs.declared.option.Option.the-variants.{None};
 ghost use Rattle.waveform.specs.Function.{described};
 ghost use Rattle.netlist.specs.Circuit.{allBelow, goodHead};
+ghost use Rattle.netlist.specs.Plain.{plainGates};
 ghost use Rattle.netlist.specs.Record.{payloadOf};
 ghost use Rattle.netlist.specs.Rules.{head, gate, checks, firstOf, firstBroken, sizeDue, countDue};
 ghost use Rattle.netlist.specs.Next.{rest};
-ghost use Rattle.netlist.specs.Step.{Announces, FieldsOf, FunctionFault, Tells, Passed, Describes};
+ghost use Rattle.netlist.specs.Step.{Announces, FieldsOf, FunctionFault, GatesTaken, Stops, Tells, Passed, Describes};
 use crate::circuit::Circuit;
 use crate::fault::CircuitFault;
 use crate::fault::CircuitFaultFromAlloc;
 use crate::fault::CircuitFaultFromRecord;
+use crate::fault::CircuitFaultFromRefused;
 use crate::gate::Gate;
 use crate::gate::Net;
 use crate::reader::Reader;
@@ -110,7 +113,8 @@ struct Head {
 
 // The head, at the reader's place.
 fn read_head(reader: &mut Reader<'_>) -> Result<Head, CircuitFault>
-    ensures { λ r. ⌜ Cases r (λ h. Passed head (now (reader .entry)) (now (reader .exit)) × Announces (payloadOf (rest (now (reader .entry)))) h) (λ e. Tells e (firstBroken head (rest (now (reader .entry)))) (now (reader .entry) .at)) ⌝ }
+    ensures same { λ r. ⌜ now (now (reader .exit) .bytes) ≡ now (now (reader .entry) .bytes) ⌝ }
+    ensures taken { λ r. ⌜ Cases r (λ h. Passed head (now (reader .entry)) (now (reader .exit)) × Announces (payloadOf (rest (now (reader .entry)))) h) (λ e. Tells e (firstBroken head (rest (now (reader .entry)))) (now (reader .entry) .at)) ⌝ }
 {
     let record = reader.next()?;
     let place = record.place;
@@ -131,7 +135,8 @@ fn read_head(reader: &mut Reader<'_>) -> Result<Head, CircuitFault>
 
 // The gate at the reader's place, its own net having the number `own`.
 fn read_gate(heap: Global, reader: &mut Reader<'_>, own: usize) -> Result<Gate, CircuitFault>
-    ensures { λ r. ⌜ Cases r (λ g. Passed (gate own) (now (reader .entry)) (now (reader .exit)) × Describes (payloadOf (rest (now (reader .entry)))) g) (λ e. Tells e (firstBroken (gate own) (rest (now (reader .entry)))) (now (reader .entry) .at)) ⌝ }
+    ensures same { λ r. ⌜ now (now (reader .exit) .bytes) ≡ now (now (reader .entry) .bytes) ⌝ }
+    ensures taken { λ r. ⌜ Cases r (λ g. Passed (gate own) (now (reader .entry)) (now (reader .exit)) × Describes (payloadOf (rest (now (reader .entry)))) g) (λ e. Tells e (firstBroken (gate own) (rest (now (reader .entry)))) (now (reader .entry) .at)) ⌝ }
 {
     let record = reader.next()?;
     if record.kind != 2 {
@@ -140,4 +145,17 @@ fn read_gate(heap: Global, reader: &mut Reader<'_>, own: usize) -> Result<Gate, 
         });
     }
     gate_from(heap, record.place, record.payload, own)
+}
+
+// The announced gates, one after the other from the reader's place.
+fn read_gates(heap: Global, reader: &mut Reader<'_>, inputs: u8, count: u8) -> Result<Vec<Gate>, CircuitFault>
+    ensures same { λ r. ⌜ now (now (reader .exit) .bytes) ≡ now (now (reader .entry) .bytes) ⌝ }
+    ensures taken { λ r. ⌜ Cases r (λ v. GatesTaken (now (now (reader .entry) .bytes)) (now (reader .entry) .at) inputs (plainGates (vec-items v)) (now (reader .exit) .at) × (vec-len v ≡ count)) (λ e. Stops e (now (now (reader .entry) .bytes)) (now (reader .entry) .at) inputs count) ⌝ }
+{
+    let mut gates = Vec::with_capacity(heap, usize::from(count))?;
+    for i in 0..count {
+        let gate = read_gate(heap, reader, usize::from(inputs) + usize::from(i))?;
+        gates.push(gate)?;
+    }
+    Ok(gates)
 }
