@@ -142,3 +142,7 @@ gate-kept own g s v =
     let high : length (gatePayload g) ≤ 13 = omega (arith, few .1) in
     let delays : leb (two (g .least % 256) (g .least / 256)) (two (g .greatest % 256) (g .greatest / 256)) ≡ true = rw (two-of (g .least), two-of (g .greatest)) (ordered .1) in
     rw (whole-back 2 (gatePayload g) s, payload-back 2 (gatePayload g) s, le-leb 6 _ low, le-leb _ 13 high, few .3, few .2, lower .1, delays)
+
+-- a good head that is written out breaks no rule
+pub head-kept : (inputs gates : ℕ) (s : List ℕ) → T (goodHead inputs gates) → firstBroken head (headBytes inputs gates ++ s) ≡ None
+head-kept inputs gates s good = rw (whole-back 1 (inputs ∷ gates ∷ []) s, so _ good)

@@ -55,6 +55,12 @@ payload-written (a ∷ b ∷ c ∷ []) long low1 low3 = absurd (omega arith)
 payload-written (a ∷ b ∷ c ∷ d ∷ []) long low1 low3 = absurd (omega arith)
 payload-written (a ∷ b ∷ c ∷ d ∷ e ∷ p) long low1 low3 = sym (λ i. a ∷ (bytes-of b c low1 i ++ (bytes-of d e low3 i ++ p)))
 
+two-items : (p : List ℕ) → length p ≡ 2 → p ≡ getD p 0 0 ∷ getD p 1 0 ∷ []
+two-items [] h = absurd (omega arith)
+two-items (a ∷ []) h = absurd (omega arith)
+two-items (a ∷ b ∷ []) h = refl
+two-items (a ∷ b ∷ c ∷ p) h = absurd (omega arith)
+
 -- a gate's record that keeps every rule is that gate written out, and the gate is valid
 module _ (own : ℕ) (bs : List ℕ) (kept : firstBroken (gate own) bs ≡ None) where
   parts : (cutShort bs ≡ false) × (kindOf bs ≡ 2) × (6 ≤ length (payloadOf bs)) × (length (payloadOf bs) ≤ 13) × (countDue (codeOf (payloadOf bs)) (length (pinsOf (payloadOf bs))) ≡ true) × (allBelow own (pinsOf (payloadOf bs)) ≡ true) × (leb (leastOf (payloadOf bs)) (greatestOf (payloadOf bs)) ≡ true)
@@ -88,3 +94,26 @@ module _ (own : ℕ) (bs : List ℕ) (kept : firstBroken (gate own) bs ≡ None)
     gate-size =
         let pinned : length (g .pins) ≡ length (pinsOf (payloadOf bs)) = ap length pins in
         omega (arith, length-drop 5 (payloadOf bs), payload-length bs (parts .0), parts .2)
+
+-- a head's record that keeps every rule is a good head written out
+module _ (bs : List ℕ) (kept : firstBroken head bs ≡ None) where
+  head-parts : (cutShort bs ≡ false) × (kindOf bs ≡ 1) × (length (payloadOf bs) ≡ 2) × T (goodHead (getD (payloadOf bs) 0 0) (getD (payloadOf bs) 1 0))
+  head-parts =
+      let p = payloadOf bs in
+      let cut = not-cut (cutShort bs) _ _ kept in
+      let kind = kept-first (eqb (kindOf bs) 1) _ _ (cut .1) in
+      let size = kept-first (eqb (length p) 2) _ _ (kind .1) in
+      let good = kept-first (goodHead (getD p 0 0) (getD p 1 0)) None _ (size .1) in
+      (cut .0, eqb-true (kindOf bs) 1 (kind .0), eqb-true (length p) 2 (size .0), yes-so _ (good .0))
+
+  module _ (inputs gates : ℕ) (is-inputs : inputs ≡ getD (payloadOf bs) 0 0) (is-gates : gates ≡ getD (payloadOf bs) 1 0) where
+    pub head-good : T (goodHead inputs gates)
+    head-good = rw (is-inputs, is-gates) (head-parts .3)
+
+    pub head-written : getD bs 0 0 < 256 → getD bs 2 0 < 256 → bs ≡ headBytes inputs gates ++ drop (4 + lengthOf bs) bs
+    head-written low0 low2 =
+        record-written bs 1 (head-parts .0) low0 low2 (head-parts .1)
+        ∙ ap (λ p. recordBytes 1 p ++ drop (4 + lengthOf bs) bs) (two-items (payloadOf bs) (head-parts .2) ∙ sym (λ i. is-inputs i ∷ is-gates i ∷ []))
+
+    pub head-size : 4 + lengthOf bs ≡ 6
+    head-size = omega (arith, payload-length bs (head-parts .0), head-parts .2)

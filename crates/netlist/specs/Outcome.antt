@@ -76,3 +76,7 @@ outcomeOf (Err e) = refusedAs (refusalOf e)
 abbrev pub TellsOnly : List ℕ → Option Outcome → Type 0
 TellsOnly bytes None = Unit {0}
 TellsOnly bytes (Some o) = Only bytes o
+
+-- the layout of a valid circuit determines it, whatever bytes follow
+abbrev pub LayoutDetermines : Type 0
+LayoutDetermines = (c d : PlainCircuit) (s t : List ℕ) → T (validCircuit c) → T (validCircuit d) → layout c ++ s ≡ layout d ++ t → c ≡ d

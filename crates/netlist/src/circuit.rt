@@ -5,6 +5,7 @@ ghost use Rattle.netlist.specs.Circuit.{validCircuit};
 ghost use Rattle.netlist.specs.Plain.{plainGates};
 use crate::gate::Gate;
 
+mod parts;
 mod read;
 
 #[derive(Drop)]

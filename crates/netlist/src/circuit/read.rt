@@ -13,6 +13,7 @@ ghost use Rattle.netlist.specs.Plain.{plainGates};
 ghost use Rattle.netlist.specs.Record.{payloadOf};
 ghost use Rattle.netlist.specs.Rules.{head, gate, checks, firstOf, firstBroken, sizeDue, countDue};
 ghost use Rattle.netlist.specs.Next.{rest};
+ghost use Rattle.netlist.specs.Outcome.{TellsOnly, LayoutDetermines, outcomeOf};
 ghost use Rattle.netlist.specs.Step.{Announces, FieldsOf, FunctionFault, GatesTaken, Stops, Tells, Passed, Describes};
 use crate::circuit::Circuit;
 use crate::fault::CircuitFault;
@@ -158,4 +159,19 @@ fn read_gates(heap: Global, reader: &mut Reader<'_>, inputs: u8, count: u8) -> R
         gates.push(gate)?;
     }
     Ok(gates)
+}
+
+impl Circuit {
+    // The circuit that a file describes, and how many bytes of the file it used.
+    pub fn read(heap: Global, bytes: &[u8]) -> Result<(Circuit, usize), CircuitFault>
+        ensures outcome { λ r. ⌜ TellsOnly (now (bytes .entry)) (outcomeOf r) ⌝ }
+        ensures layout { λ r. ⌜ LayoutDetermines ⌝ }
+    {
+        let mut reader = Reader::new(bytes);
+        let head = read_head(&mut reader)?;
+        let gates = read_gates(heap, &mut reader, head.inputs, head.gates)?;
+        let used = reader.place();
+        let inputs = head.inputs;
+        Ok((Circuit { inputs, gates }, used))
+    }
 }

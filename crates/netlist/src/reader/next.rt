@@ -15,6 +15,13 @@ impl<'a> Reader<'a> {
         Reader { bytes, at: 0 }
     }
 
+    // The place of the next record, counted in bytes from the first.
+    pub fn place(&self) -> usize
+        ensures { λ r. ⌜ r ≡ now (self .entry) .at ⌝ }
+    {
+        self.at
+    }
+
     // The next record; a record that is cut short leaves the reader as it was.
     pub fn next(&mut self) -> Result<Record<'a>, RecordFault>
         ensures { λ r. ⌜ Cases r (λ rec. Taken (now (self .entry)) (now (self .exit)) rec) (λ e. Cut (now (self .entry)) (now (self .exit)) e) ⌝ }
