@@ -1,6 +1,7 @@
 pub mod Circuit
 pub mod Record
 pub mod Layout
+pub mod Layer
 pub mod Rules
 pub mod Plain
 pub mod View

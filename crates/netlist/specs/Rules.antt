@@ -6,6 +6,8 @@ use lib.Dec.{leb, ltb, eqb}
 use lib.ListN.{length, getD, drop}
 use Rattle.std.specs.declared.option.Option.{Option}
 use Rattle.std.specs.declared.option.Option.the-variants.{Some, None}
+use Rattle.netlist.specs.declared.fault.Layer.{Layer}
+use Rattle.netlist.specs.declared.fault.Layer.the-variants.{Reader, Circuit}
 use Rattle.netlist.specs.Circuit.{allBelow, goodHead}
 use Rattle.netlist.specs.Record.{two, kindOf, payloadOf, cutShort}
 
@@ -44,16 +46,16 @@ number count = 8
 number lower = 9
 number delays = 11
 
--- the letter of the layer that finds it: R, the reader, or C, the circuit
-abbrev pub layer : Rule → ℕ
-layer whole = 82
-layer kind = 67
-layer size = 67
-layer limits = 67
-layer code = 67
-layer count = 67
-layer lower = 67
-layer delays = 67
+-- the layer that finds it: the reader, or the circuit above it
+abbrev pub layer : Rule → Layer
+layer whole = Reader
+layer kind = Circuit
+layer size = Circuit
+layer limits = Circuit
+layer code = Circuit
+layer count = Circuit
+layer lower = Circuit
+layer delays = Circuit
 
 -- the fields of a gate's payload: its function code
 abbrev pub codeOf : List ℕ → ℕ

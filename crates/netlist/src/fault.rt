@@ -1,15 +1,37 @@
 // Why a circuit file is refused: a record fault inside a circuit fault.
+ghost use mathlib.Core.List.{[], _∷_};
 ghost use mathlib.Core.Path.{_≡_};
+ghost use Rattle.std.specs.declared.option.Option.the-variants.{Some};
+ghost use Rattle.netlist.specs.Layer.{letter};
 ghost use Rattle.netlist.specs.Fault.{refusalOf, recordRefusal};
 ghost use Rattle.netlist.specs.declared.fault.CircuitFault.the-variants.{Record, Memory};
 use std::alloc::AllocError;
 use std::alloc::Refused;
+use std::fmt;
 
-// A refusal: its number, the letter of the layer that found it, and the place of the record in the file.
+// The layer that finds a fault, printed as one letter.
+#[derive(Clone, Copy, Debug)]
+pub enum Layer {
+    Reader,
+    Circuit,
+}
+
+pub impl fmt::Display for Layer as LayerDisplay {
+    ghost shown = { λ l. Some (letter l ∷ []) };
+
+    fn fmt<W: fmt::Write>(&self, f: &mut fmt::Formatter<W>) -> fmt::Result {
+        match self {
+            Layer::Reader => write!(f, "R"),
+            Layer::Circuit => write!(f, "C"),
+        }
+    }
+}
+
+// A refusal: its number, the layer that found it, and the place of the record in the file.
 #[derive(Clone, Copy, Debug)]
 pub struct Refusal {
     pub number: u8,
-    pub layer: char,
+    pub layer: Layer,
     pub place: usize,
 }
 
@@ -73,7 +95,7 @@ impl RecordFault {
         let RecordFault::CutShort { place } = self;
         Refusal {
             number: 3,
-            layer: 'R',
+            layer: Layer::Reader,
             place,
         }
     }
@@ -97,7 +119,7 @@ impl CircuitFault {
         };
         Some(Refusal {
             number,
-            layer: 'C',
+            layer: Layer::Circuit,
             place,
         })
     }

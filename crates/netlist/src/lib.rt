@@ -6,7 +6,10 @@ pub mod reader;
 
 pub use circuit::Circuit;
 pub use fault::CircuitFault;
+pub use fault::Layer;
+pub use fault::LayerDisplay;
 pub use fault::RecordFault;
+pub use fault::Refusal;
 pub use gate::Gate;
 pub use gate::Net;
 pub use reader::Reader;
