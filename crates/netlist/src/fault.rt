@@ -4,10 +4,9 @@ ghost use mathlib.Core.Path.{_≡_};
 ghost use Rattle.std.specs.declared.option.Option.the-variants.{Some};
 ghost use Rattle.netlist.specs.Layer.{letter};
 ghost use Rattle.netlist.specs.Fault.{refusalOf, recordRefusal};
-ghost use Rattle.netlist.specs.declared.fault.CircuitFault.the-variants.{Record, Memory};
-use std::alloc::AllocError;
-use std::alloc::Refused;
 use std::fmt;
+
+pub mod convert;
 
 // The layer that finds a fault, printed as one letter.
 #[derive(Clone, Copy, Debug)]
@@ -62,30 +61,6 @@ pub enum CircuitFault {
     Delays { place: usize },
     // there was no memory for the circuit
     Memory,
-}
-
-pub impl From<RecordFault> for CircuitFault as CircuitFaultFromRecord {
-    ghost converts = { λ e r. r ≡ Record e };
-
-    fn from(e: RecordFault) -> CircuitFault {
-        CircuitFault::Record(e)
-    }
-}
-
-pub impl From<AllocError> for CircuitFault as CircuitFaultFromAlloc {
-    ghost converts = { λ e r. r ≡ Memory };
-
-    fn from(_e: AllocError) -> CircuitFault {
-        CircuitFault::Memory
-    }
-}
-
-pub impl<T: Drop> From<Refused<T>> for CircuitFault as CircuitFaultFromRefused {
-    ghost converts = { λ e r. r ≡ Memory };
-
-    fn from(_e: Refused<T>) -> CircuitFault {
-        CircuitFault::Memory
-    }
 }
 
 impl RecordFault {

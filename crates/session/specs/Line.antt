@@ -16,8 +16,12 @@ abbrev pub lineText : Line → List ℕ
 lineText (Circuit inputs gates used) = codes "circuit " ++ (decimal inputs ++ (codes " " ++ (decimal gates ++ (codes " " ++ decimal used))))
 lineText (No r) = codes "no " ++ (decimal (r .number) ++ (codes " " ++ (letter (r .layer) ∷ (codes " " ++ decimal (r .place)))))
 
+-- the line for an accepted circuit
+abbrev pub acceptedLine : PlainCircuit → ℕ → Line
+acceptedLine c used = Circuit (c .inputs) (length (c .gates)) used
+
 -- the line tells the one outcome of these bytes
 abbrev pub Tells : List ℕ → Line → Type 0
 Tells bytes (Circuit inputs gates used) =
-    (c : PlainCircuit) × Only bytes (accepted c used) × (inputs ≡ c .inputs) × (gates ≡ length (c .gates))
+    (c : PlainCircuit) × Only bytes (accepted c used) × (Circuit inputs gates used ≡ acceptedLine c used)
 Tells bytes (No r) = Only bytes (refused r)

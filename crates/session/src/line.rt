@@ -2,7 +2,8 @@
 ghost use mathlib.Core.Path.{_≡_};
 ghost use Rattle.std.specs.Results.{Cases};
 ghost use Rattle.std.specs.declared.option.Option.the-variants.{Some};
-ghost use Rattle.session.specs.Line.{lineText, Tells};
+ghost use Rattle.session.specs.Line.{acceptedLine, lineText, Tells};
+ghost use Rattle.netlist.specs.View.{plain};
 use netlist::Circuit;
 use netlist::LayerDisplay;
 use netlist::Refusal;
@@ -36,16 +37,23 @@ pub impl fmt::Display for Line as LineDisplay {
     }
 }
 
+// The line for a circuit that was read.
+fn accepted_line(circuit: &Circuit, used: usize) -> Line
+    ensures { λ r. ⌜ r ≡ acceptedLine (plain (now (circuit .entry))) used ⌝ }
+{
+    Line::Circuit {
+        inputs: circuit.inputs(),
+        gates: circuit.gate_count(),
+        used,
+    }
+}
+
 // The line for a circuit file: the circuit that it holds, or why it is refused.
 pub fn circuit_line(heap: Global, bytes: &[u8]) -> Result<Line, AllocError>
     ensures { λ r. ⌜ Cases r (λ line. Tells (now (bytes .entry)) line) (λ _. Unit {0}) ⌝ }
 {
     match Circuit::read(heap, bytes) {
-        Ok((circuit, used)) => Ok(Line::Circuit {
-            inputs: circuit.inputs(),
-            gates: circuit.gates().len(),
-            used,
-        }),
+        Ok((circuit, used)) => Ok(accepted_line(&circuit, used)),
         Err(fault) => match fault.refusal() {
             Some(refusal) => Ok(Line::No(refusal)),
             None => Err(AllocError),

@@ -1,6 +1,7 @@
 // The parts of a circuit.
 ghost use mathlib.Core.Path.{_≡_};
-ghost use Rattle.std.specs.Of.Vec.{vec-items};
+ghost use Prim.Native.Nat.{_≤_};
+ghost use lib.ListN.{length};
 ghost use Rattle.netlist.specs.Circuit.{netCount};
 ghost use Rattle.netlist.specs.Plain.{plainGates};
 ghost use Rattle.netlist.specs.View.{plain};
@@ -22,10 +23,18 @@ impl Circuit {
         self.gates.as_slice()
     }
 
+    // How many gates there are.
+    pub fn gate_count(&self) -> usize
+        ensures value { λ r. ⌜ r ≡ length (plain (now (self .entry)) .gates) ⌝ }
+        ensures bound { λ r. ⌜ r ≤ 240 ⌝ }
+    {
+        self.gates.len()
+    }
+
     // How many nets there are: the inputs and the gates.
     pub fn nets(&self) -> usize
         ensures { λ r. ⌜ r ≡ netCount (plain (now (self .entry))) ⌝ }
     {
-        usize::from(self.inputs) + self.gates.len()
+        usize::from(self.inputs) + self.gate_count()
     }
 }

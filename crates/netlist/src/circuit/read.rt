@@ -1,7 +1,7 @@
 // Reading a circuit file, record after record.
 ghost use mathlib.Core.Path.{_≡_};
-ghost use mathlib.Core.Bool.{true, false};
-ghost use lib.Dec.{leb};
+ghost use mathlib.Core.Bool.{true, false, _&&_};
+ghost use lib.Dec.{leb, ltb};
 ghost use lib.ListN.{length, getD};
 ghost use Rattle.std.specs.Of.Vec.{vec-items, vec-len};
 ghost use Rattle.std.specs.Options;
@@ -16,22 +16,29 @@ ghost use Rattle.netlist.specs.Next.{rest};
 ghost use Rattle.netlist.specs.Outcome.{TellsOnly, LayoutDetermines, outcomeOf};
 ghost use Rattle.netlist.specs.Step.{Announces, FieldsOf, FunctionFault, GatesTaken, Stops, Tells, Passed, Describes};
 use crate::circuit::Circuit;
+use crate::fault::convert::CircuitFaultFromAlloc;
+use crate::fault::convert::CircuitFaultFromRecord;
+use crate::fault::convert::CircuitFaultFromRefused;
 use crate::fault::CircuitFault;
-use crate::fault::CircuitFaultFromAlloc;
-use crate::fault::CircuitFaultFromRecord;
-use crate::fault::CircuitFaultFromRefused;
 use crate::gate::Gate;
 use crate::gate::Net;
 use crate::reader::Reader;
 use std::alloc::Global;
 use waveform::Function;
 
+// Whether a pin is a net below the limit.
+fn is_below(pin: Net, limit: usize) -> bool
+    ensures { λ r. ⌜ r ≡ ltb pin limit ⌝ }
+{
+    usize::from(pin) < limit
+}
+
 // Whether every pin is a net below the limit.
 fn all_below(pins: &[Net], limit: usize) -> bool
     ensures { λ r. ⌜ r ≡ allBelow limit (now (pins .entry)) ⌝ }
 {
     for pin in pins {
-        if *pin as usize >= limit {
+        if !is_below(*pin, limit) {
             return false;
         }
     }
@@ -56,6 +63,13 @@ fn function_of(place: usize, code: u8, pins: usize) -> Result<Function, CircuitF
     }
 }
 
+// Whether a gate may have so many pins at all.
+fn is_pin_count(pins: usize) -> bool
+    ensures { λ r. ⌜ r ≡ (leb 1 pins && leb pins 8) ⌝ }
+{
+    pins >= 1 && pins <= 8
+}
+
 // A gate's payload taken apart.
 #[derive(Drop)]
 struct GateFields<'a> {
@@ -72,7 +86,7 @@ fn fields(payload: &[u8]) -> Option<GateFields<'_>>
     let [code, least_low, least_high, greatest_low, greatest_high, pins @ ..] = payload else {
         return None;
     };
-    if pins.is_empty() || pins.len() > 8 {
+    if !is_pin_count(pins.len()) {
         return None;
     }
     Some(GateFields {

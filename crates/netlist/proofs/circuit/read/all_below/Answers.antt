@@ -5,7 +5,6 @@ use Prim.Native.Nat.{ℕ, _+_, _<_}
 use lib.Dec.{ltb}
 use lib.ListN.{length, drop, getD}
 use Rattle.std.proofs.shelf.Lists.{at-drop-more, at-drop-all}
-use Rattle.std.proofs.shelf.Tests.{lt-ltb, le-ltb}
 use Rattle.netlist.specs.Circuit.{allBelow}
 use Rattle.netlist.proofs.circuit.read.all_below.Needs as need
 
@@ -15,12 +14,12 @@ next-pin n xs i h = at-drop-more (allBelow n) xs i 0 h
 
 pub loop-pin-again : need.loop-pin-again
 loop-pin-again c =
-    let low = lt-ltb _ _ (c .if-pin-limit .left) in
+    let low = sym (c .if-not-is-below .ensures tt) in
     c .loop-pin .inv ∙ rw low at (next-pin (c .args .limit) (c .args .pins .now) (c .loop-pin .pin-index) (c .loop-pin-test .taken))
 
-pub returns-then-pin-limit : need.returns-then-pin-limit
-returns-then-pin-limit c =
-    let high = le-ltb _ _ (c .if-pin-limit .taken) in
+pub returns-then-not-is-below : need.returns-then-not-is-below
+returns-then-not-is-below c =
+    let high = sym (c .if-not-is-below .ensures tt) in
     sym (c .loop-pin .inv ∙ rw high at (next-pin (c .args .limit) (c .args .pins .now) (c .loop-pin .pin-index) (c .loop-pin-test .taken)))
 
 pub returns : need.returns
