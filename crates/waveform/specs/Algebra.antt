@@ -58,3 +58,34 @@ evaluated ops Or pins = foldedIn (disj ops) (ops .zero) pins
 evaluated ops Nor pins = ops .neg (foldedIn (disj ops) (ops .zero) pins)
 evaluated ops Xor pins = foldedIn (ops .excl) (ops .zero) pins
 evaluated ops Xnor pins = ops .neg (foldedIn (ops .excl) (ops .zero) pins)
+
+-- the three parts of that fold: the value it starts from, one pin more, the inversion at its end
+abbrev pub unitOf : {V : Type 0} → Ops V → Function → V
+unitOf ops Buf = ops .one
+unitOf ops Not = ops .one
+unitOf ops And = ops .one
+unitOf ops Nand = ops .one
+unitOf ops Or = ops .zero
+unitOf ops Nor = ops .zero
+unitOf ops Xor = ops .zero
+unitOf ops Xnor = ops .zero
+
+abbrev pub joined : {V : Type 0} → Ops V → Function → V → V → V
+joined ops Buf = ops .conj
+joined ops Not = ops .conj
+joined ops And = ops .conj
+joined ops Nand = ops .conj
+joined ops Or = disj ops
+joined ops Nor = disj ops
+joined ops Xor = ops .excl
+joined ops Xnor = ops .excl
+
+abbrev pub finished : {V : Type 0} → Ops V → Function → V → V
+finished ops Buf x = x
+finished ops Not x = ops .neg x
+finished ops And x = x
+finished ops Nand x = ops .neg x
+finished ops Or x = x
+finished ops Nor x = ops .neg x
+finished ops Xor x = x
+finished ops Xnor x = ops .neg x

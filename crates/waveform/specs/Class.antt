@@ -1,5 +1,6 @@
 -- The thirteen classes of waveforms. One definition gives each its code and its three letters, and the letters alone say
 -- which waveforms it holds. Assumes nothing.
+use mathlib.Core.Path.{_≡_}
 use mathlib.Core.Bool.{Bool, true, false, not, _&&_}
 use mathlib.Core.List.{List, [], _∷_}
 use Prim.Native.Nat.{ℕ}
@@ -106,3 +107,7 @@ isConstant c = constantMiddle (described c .middle)
 
 abbrev pub isClean : Class → Bool
 isClean c = cleanMiddle (described c .middle)
+
+-- no class has these letters
+abbrev pub NoneLettered : List ℕ → Type 0
+NoneLettered text = (c : Class) → letters c ≡ text → ⊥

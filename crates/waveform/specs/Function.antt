@@ -1,4 +1,5 @@
 -- The eight gate functions. One definition gives each its code, name, truth, control value and pin counts. Assumes nothing.
+use mathlib.Core.Path.{_≡_}
 use mathlib.Core.Bool.{Bool, true, false, not, _&&_, _||_}
 use mathlib.Core.List.{List, [], _∷_}
 use Prim.Native.Nat.{ℕ}
@@ -55,3 +56,7 @@ described Xnor = record { code = 7; name = codes "XNOR"; truth = λ bs. not (odd
 -- the function may have this many pins
 abbrev pub takesPins : Function → ℕ → Bool
 takesPins f n = leb (described f .fewest) n && leb n (described f .most)
+
+-- no function has this name
+abbrev pub NoneNamed : List ℕ → Type 0
+NoneNamed text = (f : Function) → described f .name ≡ text → ⊥

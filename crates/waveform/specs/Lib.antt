@@ -4,3 +4,5 @@ pub mod Class
 pub mod Algebra
 pub mod Narrowest
 pub mod Ops
+pub mod Delay
+pub mod Examples

@@ -1,0 +1,3 @@
+pub mod Words
+pub mod Pins
+pub mod Gates
