@@ -1,0 +1,5 @@
+pub mod Run
+pub mod Row
+pub mod RunTheorems
+pub mod LivePath
+pub mod Gathered
