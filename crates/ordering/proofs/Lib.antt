@@ -1,0 +1,9 @@
+pub mod Samples
+pub mod Below
+pub mod Reading
+pub mod SameInputLaws
+pub mod SpacedLaws
+pub mod ChainLaws
+pub mod Ties
+pub mod TieSteps
+pub mod StemLaws
