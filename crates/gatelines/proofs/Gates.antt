@@ -40,7 +40,10 @@ pins-fit f n t =
 -- the class of the gate that the line describes, read from the front of the array
 pub gate-said : (f : Function) (text name : List ℕ) (ws : List (List ℕ)) (pins : List Class) (n : ℕ) (r : Class) → words text ≡ name ∷ ws → described f .name ≡ name → PinsRead ws pins n → takesPins f n ≡ true → r ≡ evaluated classOps f (take (n - 0) pins) → Says text (Ok r)
 gate-said f text name ws pins n r e named (cs, is, count, fitting) takes value =
-    let t : T (takesPins f n) = subst T (sym takes) tt in
-    (f, cs, e ∙ ap (λ x. x ∷ ws) (sym named) ∙ ap (λ x. described f .name ∷ x) is,
+    let t : T (takesPins f n) = subst T (sym takes) tt in (
+      f,
+      cs,
+      e ∙ ap (λ x. x ∷ ws) (sym named) ∙ ap (λ x. described f .name ∷ x) is,
       subst (λ (k : ℕ). T (takesPins f k)) (sym count) t,
-      value ∙ ap (λ k. evaluated classOps f (take k pins)) (sub-zero n) ∙ ap (evaluated classOps f) (fitting (pins-fit f n t)))
+      value ∙ ap (λ k. evaluated classOps f (take k pins)) (sub-zero n) ∙ ap (evaluated classOps f) (fitting (pins-fit f n t)),
+    )

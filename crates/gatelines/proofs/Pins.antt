@@ -19,11 +19,12 @@ pub record Held (all left : List (List ℕ)) (pins : List Class) (n : ℕ) : Typ
 -- one class more
 pub held-more : (all rest left : List (List ℕ)) (w : List ℕ) (pins after : List Class) (n : ℕ) (c : Class) → length pins ≡ 8 → rest ≡ w ∷ left → letters c ≡ w → after ≡ set pins n c → Held all rest pins n → Held all left after (n + 1)
 held-more all rest left w pins after n c full next e put h = record {
-    classes = h .classes ++ c ∷ [];
-    read = h .read ∙ ap (λ ws. map letters (h .classes) ++ ws) (next ∙ ap (λ x. x ∷ left) (sym e))
+  classes = h .classes ++ c ∷ [];
+  read = h .read ∙ ap (λ ws. map letters (h .classes) ++ ws) (next ∙ ap (λ x. x ∷ left) (sym e))
       ∙ sym (append-assoc (map letters (h .classes)) (letters c ∷ []) left) ∙ ap (λ ws. ws ++ left) (sym (map-push letters (h .classes) c));
-    count = length-push (h .classes) c ∙ ap (λ k. k + 1) (h .count);
-    fitting = λ fits. ap (take (n + 1)) put ∙ take-more-set pins n c (omega arith) ∙ ap (λ cs. cs ++ c ∷ []) (h .fitting (omega arith)) }
+  count = length-push (h .classes) c ∙ ap (λ k. k + 1) (h .count);
+  fitting = λ fits. ap (take (n + 1)) put ∙ take-more-set pins n c (omega arith) ∙ ap (λ cs. cs ++ c ∷ []) (h .fitting (omega arith));
+}
 
 -- no word left
 pub held-all : (all : List (List ℕ)) (pins : List Class) (n : ℕ) → Held all [] pins n → PinsRead all pins n

@@ -92,9 +92,10 @@ swap-odd false false = refl
 
 pub swapped : (f : List Bool → Bool) → ((a b : Bool) → f (a ∷ b ∷ []) ≡ f (b ∷ a ∷ [])) → (w u out : Waveform) → Pointwise f (w ∷ u ∷ []) out → Pointwise f (u ∷ w ∷ []) out
 swapped f e w u out p = record {
-    rises = p .rises;
-    starts = p .starts ∙ e (w .first) (u .first);
-    follows = λ t. p .follows t ∙ e (at w t) (at u t) }
+  rises = p .rises;
+  starts = p .starts ∙ e (w .first) (u .first);
+  follows = λ t. p .follows t ∙ e (at w t) (at u t);
+}
 
 -- the inverted waveform
 abbrev pub inverted : Waveform → Waveform
@@ -147,19 +148,19 @@ in-inverted c w h =
       rises = h .rises;
       starts = subst (λ (v : Three). T (three.described v .allows (not (w .first)))) (e .0) s;
       moving = subst (λ (m : Middle). T (moves m (inverted w))) (e .1) (neg-moves (described c .middle) w (h .moving));
-      ends = subst (λ (v : Three). T (three.described v .allows (final (inverted w)))) (e .2) f }
+      ends = subst (λ (v : Three). T (three.described v .allows (final (inverted w)))) (e .2) f;
+    }
 
 neg-contains : (c : Class) (w out : Waveform) → In c w → Pointwise inverse (w ∷ []) out → In (negClass c) out
 neg-contains c w out h p =
     subst (In (negClass c))
     (determined (inverted w) out (h .rises) (p .rises)
-      (sym (p .starts ∙ ap not (and-true (w .first))))
-      (λ t. at-inverted w t ∙ sym (p .follows t ∙ ap not (and-true (at w t)))))
+    (sym (p .starts ∙ ap not (and-true (w .first))))
+    (λ t. at-inverted w t ∙ sym (p .follows t ∙ ap not (and-true (at w t)))))
     (in-inverted c w h)
 
 -- a pin that is constant, and what the other pin then makes of the output
 module _ (c d : Class) (w u out : Waveform) (h : In c w) (k : In d u) where
-
   low-pin : T (sameClass c C000) → constant false ≡ w
   low-pin t = is-low (w .first) (w .flips) (subst (λ (x : Class). In x w) (same-class c C000 t) h .moving)
 
@@ -171,10 +172,13 @@ module _ (c d : Class) (w u out : Waveform) (h : In c w) (k : In d u) where
     where
       q : Pointwise allOnes (constant false ∷ u ∷ []) out
       q = subst (λ (v : Waveform). Pointwise allOnes (v ∷ u ∷ []) out) (sym (low-pin t)) p
+
       first : out .first ≡ false
       first = q .starts
+
       follow : (n : ℕ) → at out n ≡ false
       follow n = q .follows n
+
       low-in : In C000 (constant false)
       low-in = record { rises = tt; starts = tt; moving = tt; ends = tt }
 
@@ -195,6 +199,7 @@ module _ (c d : Class) (w u out : Waveform) (h : In c w) (k : In d u) where
     where
       q : Pointwise oddOnes (constant true ∷ u ∷ []) out
       q = subst (λ (v : Waveform). Pointwise oddOnes (v ∷ u ∷ []) out) (sym (high-pin t)) p
+
       turned : (b : Bool) → oddOnes (true ∷ b ∷ []) ≡ inverse (b ∷ [])
       turned true = refl
       turned false = refl
@@ -219,33 +224,37 @@ ordered-rises : (s t : ℕ) (w u out : Waveform) → w ≡ once false s → u �
 ordered-rises s t w u out e f l k p =
     subst (In C0R1)
     (determined u out (k .rises) (p .rises)
-      (ap (λ v. v .first) f ∙ sym (p .starts ∙ ap (λ v. allOnes (v .first ∷ u .first ∷ [])) e ∙ ap (λ v. allOnes (false ∷ v .first ∷ [])) f))
-      (λ n. ap (λ v. at v n) f ∙ sym (p .follows n ∙ ap (λ v. allOnes (at v n ∷ at u n ∷ [])) e ∙ ap (λ v. allOnes (at (once false s) n ∷ at v n ∷ [])) f
-        ∙ later-rise (leb s n) (leb t n) (reached-first s t n l))))
+    (ap (λ v. v .first) f ∙ sym (p .starts ∙ ap (λ v. allOnes (v .first ∷ u .first ∷ [])) e ∙ ap (λ v. allOnes (false ∷ v .first ∷ [])) f))
+    (λ n. ap (λ v. at v n) f ∙ sym (p .follows n ∙ ap (λ v. allOnes (at v n ∷ at u n ∷ [])) e ∙ ap (λ v. allOnes (at (once false s) n ∷ at v n ∷ [])) f
+    ∙ later-rise (leb s n) (leb t n) (reached-first s t n l))))
     k
 
 ordered-falls : (s t : ℕ) (w u out : Waveform) → w ≡ once true s → u ≡ once true t → s ≤ t → In C1F0 w → Pointwise allOnes (w ∷ u ∷ []) out → In C1F0 out
 ordered-falls s t w u out e f l h p =
     subst (In C1F0)
     (determined w out (h .rises) (p .rises)
-      (ap (λ v. v .first) e ∙ sym (p .starts ∙ ap (λ v. allOnes (v .first ∷ u .first ∷ [])) e ∙ ap (λ v. allOnes (true ∷ v .first ∷ [])) f))
-      (λ n. ap (λ v. at v n) e ∙ sym (p .follows n ∙ ap (λ v. allOnes (at v n ∷ at u n ∷ [])) e ∙ ap (λ v. allOnes (at (once true s) n ∷ at v n ∷ [])) f
-        ∙ earlier-fall (leb s n) (leb t n) (reached-first s t n l))))
+    (ap (λ v. v .first) e ∙ sym (p .starts ∙ ap (λ v. allOnes (v .first ∷ u .first ∷ [])) e ∙ ap (λ v. allOnes (true ∷ v .first ∷ [])) f))
+    (λ n. ap (λ v. at v n) e ∙ sym (p .follows n ∙ ap (λ v. allOnes (at v n ∷ at u n ∷ [])) e ∙ ap (λ v. allOnes (at (once true s) n ∷ at v n ∷ [])) f
+    ∙ earlier-fall (leb s n) (leb t n) (reached-first s t n l))))
     h
 
 two-rises : (w u out : Waveform) → In C0R1 w → In C0R1 u → Pointwise allOnes (w ∷ u ∷ []) out → In C0R1 out
 two-rises w u out h k p =
     let a = is-rise (w .first) (w .flips) (h .moving) in
     let b = is-rise (u .first) (u .flips) (k .moving) in
-    elim (cases-lt (a .0) (b .0)) [ inl l ↦ ordered-rises (a .0) (b .0) w u out (a .1) (b .1) (omega arith) k p
-    | inr l ↦ ordered-rises (b .0) (a .0) u w out (b .1) (a .1) l h (swapped allOnes swap-and w u out p) ]
+    elim (cases-lt (a .0) (b .0)) [
+      | inl l ↦ ordered-rises (a .0) (b .0) w u out (a .1) (b .1) (omega arith) k p
+      | inr l ↦ ordered-rises (b .0) (a .0) u w out (b .1) (a .1) l h (swapped allOnes swap-and w u out p)
+    ]
 
 two-falls : (w u out : Waveform) → In C1F0 w → In C1F0 u → Pointwise allOnes (w ∷ u ∷ []) out → In C1F0 out
 two-falls w u out h k p =
     let a = is-fall (w .first) (w .flips) (h .moving) in
     let b = is-fall (u .first) (u .flips) (k .moving) in
-    elim (cases-lt (a .0) (b .0)) [ inl l ↦ ordered-falls (a .0) (b .0) w u out (a .1) (b .1) (omega arith) h p
-    | inr l ↦ ordered-falls (b .0) (a .0) u w out (b .1) (a .1) l k (swapped allOnes swap-and w u out p) ]
+    elim (cases-lt (a .0) (b .0)) [
+      | inl l ↦ ordered-falls (a .0) (b .0) w u out (a .1) (b .1) (omega arith) h p
+      | inr l ↦ ordered-falls (b .0) (a .0) u w out (b .1) (a .1) l k (swapped allOnes swap-and w u out p)
+    ]
 
 -- a clean class is 0R1 or 1F0
 pub clean-cases : (c : Class) → T (isClean c) → T (sameClass c C0R1) ⊎ T (sameClass c C1F0)
@@ -295,9 +304,10 @@ excl-contains c d w u out h k p =
 
 pub class-sound : Sound classOps In
 class-sound = record {
-    rises = λ c w h. h .rises;
-    zero-stands = record { rises = tt; starts = tt; moving = tt; ends = tt };
-    one-stands = record { rises = tt; starts = tt; moving = tt; ends = tt };
-    neg-contains = neg-contains;
-    conj-contains = conj-contains;
-    excl-contains = excl-contains }
+  rises = λ c w h. h .rises;
+  zero-stands = record { rises = tt; starts = tt; moving = tt; ends = tt };
+  one-stands = record { rises = tt; starts = tt; moving = tt; ends = tt };
+  neg-contains = neg-contains;
+  conj-contains = conj-contains;
+  excl-contains = excl-contains;
+}

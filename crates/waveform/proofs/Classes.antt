@@ -86,10 +86,11 @@ by3 f g t x = by2 (f x) (g x) (for-each (λ a. every (λ b. every (λ c. sameCla
 
 pub class-laws : Lawful classOps
 class-laws = record {
-    conj-assoc = by3 (λ x y z. conjClass (conjClass x y) z) (λ x y z. conjClass x (conjClass y z)) tt;
-    conj-comm = by2 conjClass (λ x y. conjClass y x) tt;
-    conj-one = by1 (conjClass C111) (λ x. x) tt;
-    excl-assoc = by3 (λ x y z. exclClass (exclClass x y) z) (λ x y z. exclClass x (exclClass y z)) tt;
-    excl-comm = by2 exclClass (λ x y. exclClass y x) tt;
-    excl-zero = by1 (exclClass C000) (λ x. x) tt;
-    neg-neg = by1 (λ x. negClass (negClass x)) (λ x. x) tt }
+  conj-assoc = by3 (λ x y z. conjClass (conjClass x y) z) (λ x y z. conjClass x (conjClass y z)) tt;
+  conj-comm = by2 conjClass (λ x y. conjClass y x) tt;
+  conj-one = by1 (conjClass C111) (λ x. x) tt;
+  excl-assoc = by3 (λ x y z. exclClass (exclClass x y) z) (λ x y z. exclClass x (exclClass y z)) tt;
+  excl-comm = by2 exclClass (λ x y. exclClass y x) tt;
+  excl-zero = by1 (exclClass C000) (λ x. x) tt;
+  neg-neg = by1 (λ x. negClass (negClass x)) (λ x. x) tt;
+}

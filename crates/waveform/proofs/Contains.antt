@@ -2,7 +2,6 @@
 use mathlib.Core.Path.{_≡_, refl, sym, ap, subst, _∙_}
 use mathlib.Core.Bool.{Bool, true, false, not, _&&_}
 use mathlib.Core.List.{List, [], _∷_}
-use Prim.Native.Nat.{ℕ}
 use Rattle.signals.specs.Waveform.{Waveform, Rising, at, constant}
 use Rattle.signals.specs.GateRule.{Pointwise, firsts, sampled}
 use Rattle.signals.proofs.Waveforms.{determined}
@@ -42,6 +41,7 @@ some-joins = record { of-unit = λ bs. refl; of-one = one; of-two = two }
     one : (b : Bool) → someOne (b ∷ []) ≡ b
     one true = refl
     one false = refl
+
     two : (a b : Bool) (bs : List Bool) → someOne (a ∷ b ∷ bs) ≡ someOne (someOne (a ∷ b ∷ []) ∷ bs)
     two true true bs = refl
     two true false bs = refl
@@ -54,6 +54,7 @@ odd-joins = record { of-unit = λ bs. refl; of-one = one; of-two = two }
     one : (b : Bool) → oddOnes (b ∷ []) ≡ b
     one true = refl
     one false = refl
+
     two : (a b : Bool) (bs : List Bool) → oddOnes (a ∷ b ∷ bs) ≡ oddOnes (oddOnes (a ∷ b ∷ []) ∷ bs)
     two true true bs = sym (not-not (oddOnes bs))
     two true false bs = refl
@@ -63,9 +64,10 @@ odd-joins = record { of-unit = λ bs. refl; of-one = one; of-two = two }
 -- the output does not change when its first two pins are taken together first
 joined : (whole : List Bool → Bool) (unit : Bool) → Joins whole unit → (v w u out : Waveform) (ws : List Waveform) → Pointwise whole (v ∷ w ∷ ws) out → Pointwise whole (v ∷ w ∷ []) u → Pointwise whole (u ∷ ws) out
 joined whole unit j v w u out ws p q = record {
-    rises = p .rises;
-    starts = p .starts ∙ j .of-two (v .first) (w .first) (firsts ws) ∙ ap (λ b. whole (b ∷ firsts ws)) (sym (q .starts));
-    follows = λ t. p .follows t ∙ j .of-two (at v t) (at w t) (sampled t ws) ∙ ap (λ b. whole (b ∷ sampled t ws)) (sym (q .follows t)) }
+  rises = p .rises;
+  starts = p .starts ∙ j .of-two (v .first) (w .first) (firsts ws) ∙ ap (λ b. whole (b ∷ firsts ws)) (sym (q .starts));
+  follows = λ t. p .follows t ∙ j .of-two (at v t) (at w t) (sampled t ws) ∙ ap (λ b. whole (b ∷ sampled t ws)) (sym (q .follows t));
+}
 
 -- the output of a function that gives its one pin back is that pin's waveform
 pub same-as-pin : (whole : List Bool → Bool) → ((b : Bool) → whole (b ∷ []) ≡ b) → (v out : Waveform) → Rising v → Pointwise whole (v ∷ []) out → v ≡ out
@@ -73,7 +75,6 @@ same-as-pin whole one v out r p =
     determined v out r (p .rises) (sym (p .starts ∙ one (v .first))) (λ t. sym (p .follows t ∙ one (at v t)))
 
 module _ {V : Type 0} (ops : Ops V) (stands : V → Waveform → Type 0) (sound : Sound ops stands) where
-
   fold-contains : (op : V → V → V) (whole : List Bool → Bool) (unit : Bool) → Joins whole unit →
       ((x y : V) (w u out : Waveform) → stands x w → stands y u → Pointwise whole (w ∷ u ∷ []) out → stands (op x y) out) →
       (a : V) (v : Waveform) (xs : List V) (ws : List Waveform) (out : Waveform) →
@@ -99,9 +100,11 @@ module _ {V : Type 0} (ops : Ops V) (stands : V → Waveform → Type 0) (sound 
   inverse-contains truth pins x c ws m out p =
       let u = output truth ws in
       sound .neg-contains x (u .0) out (c ws m (u .0) (u .1))
-      (record { rises = p .rises;
+      (record {
+        rises = p .rises;
         starts = p .starts ∙ ap not (sym (u .1 .starts) ∙ sym (and-true (u .0 .first)));
-        follows = λ t. p .follows t ∙ ap not (sym (u .1 .follows t) ∙ sym (and-true (at (u .0) t))) })
+        follows = λ t. p .follows t ∙ ap not (sym (u .1 .follows t) ∙ sym (and-true (at (u .0) t)));
+      })
 
   disj-contains : (x y : V) (w u out : Waveform) → stands x w → stands y u → Pointwise someOne (w ∷ u ∷ []) out → stands (disj ops x y) out
   disj-contains x y w u out s r p =
@@ -110,16 +113,19 @@ module _ {V : Type 0} (ops : Ops V) (stands : V → Waveform → Type 0) (sound 
       let both = output allOnes (nw .0 ∷ nu .0 ∷ []) in
       sound .neg-contains (ops .conj (ops .neg x) (ops .neg y)) (both .0) out
       (sound .conj-contains (ops .neg x) (ops .neg y) (nw .0) (nu .0) (both .0)
-        (sound .neg-contains x w (nw .0) s (nw .1)) (sound .neg-contains y u (nu .0) r (nu .1)) (both .1))
-      (record { rises = p .rises;
+      (sound .neg-contains x w (nw .0) s (nw .1)) (sound .neg-contains y u (nu .0) r (nu .1)) (both .1))
+      (record {
+        rises = p .rises;
         starts = p .starts ∙ swapped (w .first) (u .first) ∙ back (nw .1 .starts) (nu .1 .starts) (both .1 .starts);
-        follows = λ t. p .follows t ∙ swapped (at w t) (at u t) ∙ back (nw .1 .follows t) (nu .1 .follows t) (both .1 .follows t) })
+        follows = λ t. p .follows t ∙ swapped (at w t) (at u t) ∙ back (nw .1 .follows t) (nu .1 .follows t) (both .1 .follows t);
+      })
     where
       swapped : (a b : Bool) → someOne (a ∷ b ∷ []) ≡ inverse (allOnes (inverse (a ∷ []) ∷ inverse (b ∷ []) ∷ []) ∷ [])
       swapped true true = refl
       swapped true false = refl
       swapped false true = refl
       swapped false false = refl
+
       back : {a b c d e : Bool} → a ≡ d → b ≡ e → c ≡ allOnes (a ∷ b ∷ []) → inverse (allOnes (d ∷ e ∷ []) ∷ []) ≡ inverse (c ∷ [])
       back p q r = cc
 

@@ -8,7 +8,6 @@ use lib.Dec.{T}
 use Rattle.signals.specs.Waveform.{Waveform, risingFrom, later}
 use Rattle.signals.proofs.Waveforms.{rising-parts, from-rising-parts}
 use Rattle.signals.proofs.Later.{rising-later, final-later}
-use Rattle.waveform.specs.declared.class.Class.{Class}
 use Rattle.waveform.specs.Three as three
 use Rattle.waveform.specs.Class.{In, Middle, low, high, rise, fall, free, described, none, single, moves}
 use Rattle.waveform.specs.Delay.{ClassesIgnoreDelay}
@@ -43,10 +42,13 @@ classes-ignore-delay c d w = (forth, back)
       rises = rising-later d w (h .rises);
       starts = h .starts;
       moving = subst T (moves-later d (described c .middle) w) (h .moving);
-      ends = subst (λ (b : Bool). T (three.described (described c .finish) .allows b)) (sym (final-later d w)) (h .ends) }
+      ends = subst (λ (b : Bool). T (three.described (described c .finish) .allows b)) (sym (final-later d w)) (h .ends);
+    }
+
     back : In c (later d w) → In c w
     back h = record {
       rises = rising-earlier d 0 0 (w .flips) zero-le (h .rises);
       starts = h .starts;
       moving = subst T (sym (moves-later d (described c .middle) w)) (h .moving);
-      ends = subst (λ (b : Bool). T (three.described (described c .finish) .allows b)) (final-later d w) (h .ends) }
+      ends = subst (λ (b : Bool). T (three.described (described c .finish) .allows b)) (final-later d w) (h .ends);
+    }

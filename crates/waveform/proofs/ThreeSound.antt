@@ -1,6 +1,6 @@
 -- The three values as a switching algebra of constant waveforms. Assumes nothing.
 use mathlib.Core.Path.{_≡_, refl, sym, ap, subst, _∙_}
-use mathlib.Core.Bool.{Bool, true, false, not, _&&_}
+use mathlib.Core.Bool.{Bool, true, false}
 use mathlib.Core.List.{List, [], _∷_}
 use Prim.Native.Nat.{ℕ}
 use lib.Dec.{T}
@@ -67,15 +67,19 @@ allowed-as v e h = subst (λ (x : Bool). T (described v .allows x)) (sym e) h
 
 pub three-sound : Sound threeOps Stands
 three-sound = record {
-    rises = λ x w s. subst (λ (fs : List ℕ). T (risingFrom 0 fs)) (sym (s .still)) tt;
-    zero-stands = record { still = refl; allowed = tt };
-    one-stands = record { still = refl; allowed = tt };
-    neg-contains = λ x w out s p. record {
-      still = still-of-one inverse w out (s .still) p;
-      allowed = allowed-as (negThree x) (p .starts) (neg-allows x (w .first) (s .allowed)) };
-    conj-contains = λ x y w u out s k p. record {
-      still = still-of-two allOnes w u out (s .still) (k .still) p;
-      allowed = allowed-as (conjThree x y) (p .starts) (conj-allows x y (w .first) (u .first) (s .allowed) (k .allowed)) };
-    excl-contains = λ x y w u out s k p. record {
-      still = still-of-two oddOnes w u out (s .still) (k .still) p;
-      allowed = allowed-as (exclThree x y) (p .starts) (excl-allows x y (w .first) (u .first) (s .allowed) (k .allowed)) } }
+  rises = λ x w s. subst (λ (fs : List ℕ). T (risingFrom 0 fs)) (sym (s .still)) tt;
+  zero-stands = record { still = refl; allowed = tt };
+  one-stands = record { still = refl; allowed = tt };
+  neg-contains = λ x w out s p. record {
+    still = still-of-one inverse w out (s .still) p;
+    allowed = allowed-as (negThree x) (p .starts) (neg-allows x (w .first) (s .allowed));
+  };
+  conj-contains = λ x y w u out s k p. record {
+    still = still-of-two allOnes w u out (s .still) (k .still) p;
+    allowed = allowed-as (conjThree x y) (p .starts) (conj-allows x y (w .first) (u .first) (s .allowed) (k .allowed));
+  };
+  excl-contains = λ x y w u out s k p. record {
+    still = still-of-two oddOnes w u out (s .still) (k .still) p;
+    allowed = allowed-as (exclThree x y) (p .starts) (excl-allows x y (w .first) (u .first) (s .allowed) (k .allowed));
+  };
+}

@@ -59,7 +59,7 @@ evaluated ops Nor pins = ops .neg (foldedIn (disj ops) (ops .zero) pins)
 evaluated ops Xor pins = foldedIn (ops .excl) (ops .zero) pins
 evaluated ops Xnor pins = ops .neg (foldedIn (ops .excl) (ops .zero) pins)
 
--- the three parts of that fold: the value it starts from, one pin more, the inversion at its end
+-- the value that the fold starts from
 abbrev pub unitOf : {V : Type 0} → Ops V → Function → V
 unitOf ops Buf = ops .one
 unitOf ops Not = ops .one
@@ -70,6 +70,7 @@ unitOf ops Nor = ops .zero
 unitOf ops Xor = ops .zero
 unitOf ops Xnor = ops .zero
 
+-- one pin more
 abbrev pub joined : {V : Type 0} → Ops V → Function → V → V → V
 joined ops Buf = ops .conj
 joined ops Not = ops .conj
@@ -80,6 +81,7 @@ joined ops Nor = disj ops
 joined ops Xor = ops .excl
 joined ops Xnor = ops .excl
 
+-- the inversion after the fold, for a function that has one
 abbrev pub finished : {V : Type 0} → Ops V → Function → V → V
 finished ops Buf x = x
 finished ops Not x = ops .neg x

@@ -1,6 +1,6 @@
 -- Worked gates, computed by the definitions themselves. Assumes nothing.
 use mathlib.Core.Path.{_≡_}
-use mathlib.Core.List.{List, [], _∷_}
+use mathlib.Core.List.{[], _∷_}
 use Rattle.waveform.specs.declared.function.Function.{Function}
 use Rattle.waveform.specs.declared.function.Function.the-variants.{And, Nand, Or, Xor}
 use Rattle.waveform.specs.declared.class.Class.{Class}

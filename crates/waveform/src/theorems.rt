@@ -5,11 +5,9 @@ ghost use Rattle.waveform.specs.Examples.{GateExamples};
 // A waveform's classes do not change when all its flips move later.
 pub fn classes_ignore_delay()
     ensures { λ _. ⌜ ClassesIgnoreDelay ⌝ }
-{
-}
+{}
 
 // Eight worked gates come out as they should.
 pub fn gate_examples_hold()
     ensures { λ _. ⌜ GateExamples ⌝ }
-{
-}
+{}

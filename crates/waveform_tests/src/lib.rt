@@ -4,16 +4,16 @@ mod tests {
     use std::test::*;
     use waveform::Class;
     use waveform::ClassAlgebra;
-    use waveform::class::ClassDebug;
-    use waveform::class::ClassPartialEq;
     use waveform::Function;
-    use waveform::function::FunctionDebug;
-    use waveform::function::FunctionPartialEq;
     use waveform::Three;
     use waveform::ThreeAlgebra;
+    use waveform::class::ClassDebug;
+    use waveform::class::ClassPartialEq;
+    use waveform::evaluate;
+    use waveform::function::FunctionDebug;
+    use waveform::function::FunctionPartialEq;
     use waveform::three::ThreeDebug;
     use waveform::three::ThreePartialEq;
-    use waveform::evaluate;
 
     #[test]
     fn functions_by_code_and_name() -> Result<(), Fail> {
@@ -52,7 +52,10 @@ mod tests {
         ];
         for (name, left, right, out) in gates.iter().copied() {
             let function = Function::from_name(name).ok_or("no function")?;
-            let pins = [Class::from_letters(left).ok_or("no class")?, Class::from_letters(right).ok_or("no class")?];
+            let pins = [
+                Class::from_letters(left).ok_or("no class")?,
+                Class::from_letters(right).ok_or("no class")?,
+            ];
             check_eq(evaluate(function, &pins).letters(), out)?;
         }
         Ok(())

@@ -11,7 +11,10 @@ returns-in-rest-from-letters c =
     (c .in-Some .ensures tt .0) (c .in-rest-from-letters .ensures tt) (c .loop-word .inv .3)
 
 pub loop-word-again : need.loop-word-again
-loop-word-again c =
-    (search needs, omega (arith, c .in-Some .ensures tt .1), c .put .array-long,
-      held-more (words (c .args .text .now)) (words (c .loop-word .rest .now)) (words (c .in-Some .after .now)) (c .in-Some .word .now) (c .loop-word .pins) (c .put .last .pins) (c .loop-word .count) (c .in-Some-from-letters .class)
-      (c .loop-word .inv .2) (c .in-Some .ensures tt .0) (c .in-Some-from-letters .ensures tt) (c .put .ensures) (c .loop-word .inv .3))
+loop-word-again c = (
+  search needs,
+  omega (arith, c .in-Some .ensures tt .1),
+  c .put .array-long,
+  held-more (words (c .args .text .now)) (words (c .loop-word .rest .now)) (words (c .in-Some .after .now)) (c .in-Some .word .now) (c .loop-word .pins) (c .put .last .pins) (c .loop-word .count) (c .in-Some-from-letters .class)
+      (c .loop-word .inv .2) (c .in-Some .ensures tt .0) (c .in-Some-from-letters .ensures tt) (c .put .ensures) (c .loop-word .inv .3),
+)

@@ -1,12 +1,9 @@
 -- The words read so far are classes, and stand at the front of the array as long as they fit.
 use mathlib.Core.Path.{_≡_}
-use mathlib.Core.List.{List, map, _++_}
 use Prim.Native.Nat.{_+_, _≤_}
 use denote.Text.{Utf8}
 use denote.Shadow.{shadow}
-use lib.ListN.{length, take}
-use Rattle.waveform.specs.declared.class.Class.{Class}
-use Rattle.waveform.specs.Class.{letters}
+use lib.ListN.{length}
 use Rattle.gatelines.specs.Line.{words}
 use Rattle.gatelines.proofs.Pins.{Held}
 use Rattle.gatelines.proofs.line.read_pins.Given as given

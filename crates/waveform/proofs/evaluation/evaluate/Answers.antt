@@ -19,4 +19,5 @@ returns g c =
     let e = fold-ends (a .ops) f pins (c .loop-pin .value) (c .finish .result) (c .loop-pin .pin-index) (c .loop-pin-test .left) (c .loop-pin .inv) (c .finish .ensures) in
     record {
       fold = e;
-      contains = subst (Contains (a .stands) (described f .truth) pins) (sym e) (evaluated-contains (a .ops) (a .stands) (g .V·SwitchingAlgebra·met .sound) f pins) }
+      contains = subst (Contains (a .stands) (described f .truth) pins) (sym e) (evaluated-contains (a .ops) (a .stands) (g .V·SwitchingAlgebra·met .sound) f pins);
+    }
