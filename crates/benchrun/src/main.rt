@@ -1,6 +1,6 @@
 // Reads a circuit file from standard input and prints what it holds or why it is refused.
-use session::line::circuit_line;
 use session::line::LineDisplay;
+use session::line::circuit_line;
 use std::error::AnyError;
 use std::io::Read;
 

@@ -87,10 +87,10 @@ accepted-told bytes c n h =
     let s = drop n bytes in
     let used : 6 + length (gatesBytes gs) ≡ n = omega (arith, h .used) in
     sym (
-      ap outcome (begins n bytes (layout c) (h .written) ∙ append-assoc (headBytes (c .inputs) (length gs)) (gatesBytes gs) s)
-      ∙ ap (λ k. outcome (headBytes (c .inputs) k ++ (gatesBytes gs ++ s))) (sym all)
-      ∙ file-outcome (c .inputs) 0 gs s good (yes-so _ (parts .1))
-      ∙ ap (accepted c) used
+    ap outcome (begins n bytes (layout c) (h .written) ∙ append-assoc (headBytes (c .inputs) (length gs)) (gatesBytes gs) s)
+    ∙ ap (λ k. outcome (headBytes (c .inputs) k ++ (gatesBytes gs ++ s))) (sym all)
+    ∙ file-outcome (c .inputs) 0 gs s good (yes-so _ (parts .1))
+    ∙ ap (accepted c) used
     )
 
 before-told : (bytes : List ℕ) (own place : ℕ) (rule : Rule) → GatesBefore bytes place own → firstBroken (gate own) (drop place bytes) ≡ Some rule → refused (refusal rule place) ≡ outcome bytes
@@ -103,11 +103,11 @@ before-told bytes own place rule h broken =
     let far : 6 + length (gatesBytes gs) ≡ place = omega (arith, h .reached) in
     let due : firstBroken (gate (h .inputs + length gs)) s ≡ Some rule = subst (λ k. firstBroken (gate k) s ≡ Some rule) (h .next) broken in
     sym (
-      ap outcome (begins place bytes _ (h .written) ∙ append-assoc (headBytes (h .inputs) (h .announced)) (gatesBytes gs) s)
-      ∙ ap (λ k. outcome (headBytes (h .inputs) k ++ (gatesBytes gs ++ s))) count
-      ∙ file-outcome (h .inputs) (suc left) gs s good (h .valid)
-      ∙ ap (λ o. unlessBroken o (6 + length (gatesBytes gs)) (gatesOutcome (h .inputs) left (h .inputs + length gs + 1) (6 + length (gatesBytes gs) + (4 + lengthOf s)) (gs ++ gateFrom (payloadOf s) ∷ []) (drop (4 + lengthOf s) s))) due
-      ∙ ap (λ k. refused (refusal rule k)) far
+    ap outcome (begins place bytes _ (h .written) ∙ append-assoc (headBytes (h .inputs) (h .announced)) (gatesBytes gs) s)
+    ∙ ap (λ k. outcome (headBytes (h .inputs) k ++ (gatesBytes gs ++ s))) count
+    ∙ file-outcome (h .inputs) (suc left) gs s good (h .valid)
+    ∙ ap (λ o. unlessBroken o (6 + length (gatesBytes gs)) (gatesOutcome (h .inputs) left (h .inputs + length gs + 1) (6 + length (gatesBytes gs) + (4 + lengthOf s)) (gs ++ gateFrom (payloadOf s) ∷ []) (drop (4 + lengthOf s) s))) due
+    ∙ ap (λ k. refused (refusal rule k)) far
     )
 
 refused-told : (bytes : List ℕ) (due : Due) (rule : Rule) (place : ℕ) → DueAt bytes place due → firstBroken due (drop place bytes) ≡ Some rule → refused (refusal rule place) ≡ outcome bytes
@@ -143,7 +143,7 @@ read-accepted bytes inputs count gs after kept low0 low2 is-inputs is-count take
     let front = head-written bytes kept inputs count is-inputs is-count low0 low2 in
     let six : drop (4 + lengthOf bytes) bytes ≡ gatesBytes gs ++ drop after bytes = ap (λ k. drop k bytes) (head-size bytes kept inputs count is-inputs is-count) ∙ taken .stands in
     let whole : bytes ≡ layout c ++ drop after bytes =
-        front ∙ ap (λ xs. headBytes inputs count ++ xs) six ∙ sym (append-assoc (headBytes inputs count) (gatesBytes gs) (drop after bytes)) ∙ ap (λ k. (headBytes inputs k ++ gatesBytes gs) ++ drop after bytes) (sym all) in
+    front ∙ ap (λ xs. headBytes inputs count ++ xs) six ∙ sym (append-assoc (headBytes inputs count) (gatesBytes gs) (drop after bytes)) ∙ ap (λ k. (headBytes inputs k ++ gatesBytes gs) ++ drop after bytes) (sym all) in
     let used : after ≡ length (layout c) = omega (arith, taken .moved) in
     record {
       valid = yes-so _ (and-from _ _ (so _ (subst (λ k. T (goodHead inputs k)) (sym all) good)) (so _ (taken .valid)));
@@ -159,7 +159,7 @@ read-stopped bytes inputs count rule place kept low0 low2 is-inputs is-count sto
     let front = head-written bytes kept inputs count is-inputs is-count low0 low2 in
     let six : drop (4 + lengthOf bytes) bytes ≡ gatesBytes gs ++ drop after bytes = ap (λ k. drop k bytes) (head-size bytes kept inputs count is-inputs is-count) ∙ stop .taken .stands in
     let whole : bytes ≡ (headBytes inputs count ++ gatesBytes gs) ++ drop after bytes =
-        front ∙ ap (λ xs. headBytes inputs count ++ xs) six ∙ sym (append-assoc (headBytes inputs count) (gatesBytes gs) (drop after bytes)) in
+    front ∙ ap (λ xs. headBytes inputs count ++ xs) six ∙ sym (append-assoc (headBytes inputs count) (gatesBytes gs) (drop after bytes)) in
     let reached : after ≡ length (headBytes inputs count ++ gatesBytes gs) = omega (arith, stop .taken .moved) in
     record {
       due = gate (inputs + length gs);

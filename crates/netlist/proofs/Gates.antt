@@ -54,7 +54,7 @@ taken-more bytes place own gs at next g taken follows held low0 low2 is =
     record {
       valid = valid-more own gs h (taken .valid) (gate-valid (own + length gs) bs kept h (is .code) (is .least) (is .greatest) (is .pins) (is .most));
       stands =
-        taken .stands ∙ ap (λ x. gatesBytes gs ++ x) (written ∙ ap (λ x. gateBytes h ++ x) behind) ∙ sym (append-assoc (gatesBytes gs) (gateBytes h) (drop after bytes)) ∙ ap (λ x. x ++ drop after bytes) (sym more);
+          taken .stands ∙ ap (λ x. gatesBytes gs ++ x) (written ∙ ap (λ x. gateBytes h ++ x) behind) ∙ sym (append-assoc (gatesBytes gs) (gateBytes h) (drop after bytes)) ∙ ap (λ x. x ++ drop after bytes) (sym more);
       moved = omega (arith, taken .moved, ap length more, length-append (gatesBytes gs) (gateBytes h), size);
     }
 

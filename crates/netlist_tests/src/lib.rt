@@ -1,14 +1,50 @@
 // Circuit files, accepted and refused: worked cases as tables.
 #[cfg(test)]
 mod tests {
-    use session::line::circuit_line;
     use session::line::LineDisplay;
+    use session::line::circuit_line;
     use std::alloc::Global;
     use std::test::*;
 
     // two inputs; NOT of 0 at place 6, BUF of 0 at place 16, AND of 2 and 3 at place 26
     const BASE: [u8; 37] = [
-        2, 0, 1, 0, 2, 3, 6, 0, 2, 0, 1, 1, 0, 2, 0, 0, 6, 0, 2, 0, 0, 4, 0, 6, 0, 0, 7, 0, 2, 0, 2, 1, 0, 1, 0, 2, 3,
+        2,
+        0,
+        1,
+        0,
+        2,
+        3,
+        6,
+        0,
+        2,
+        0,
+        1,
+        1,
+        0,
+        2,
+        0,
+        0,
+        6,
+        0,
+        2,
+        0,
+        0,
+        4,
+        0,
+        6,
+        0,
+        0,
+        7,
+        0,
+        2,
+        0,
+        2,
+        1,
+        0,
+        1,
+        0,
+        2,
+        3,
     ];
 
     // one byte of the base changed, and the line that must come
@@ -19,35 +55,151 @@ mod tests {
     }
 
     const CASES: [Case; 29] = [
-        Case { at: 36, value: 3, line: "circuit 2 3 37" },
-        Case { at: 4, value: 0, line: "no 6 C 0" },
-        Case { at: 4, value: 17, line: "no 6 C 0" },
-        Case { at: 5, value: 241, line: "no 6 C 0" },
-        Case { at: 2, value: 2, line: "no 4 C 0" },
-        Case { at: 3, value: 1, line: "no 4 C 0" },
-        Case { at: 0, value: 3, line: "no 5 C 0" },
-        Case { at: 8, value: 1, line: "no 4 C 6" },
-        Case { at: 18, value: 3, line: "no 4 C 16" },
-        Case { at: 29, value: 1, line: "no 4 C 26" },
-        Case { at: 6, value: 5, line: "no 5 C 6" },
-        Case { at: 16, value: 14, line: "no 5 C 16" },
-        Case { at: 26, value: 5, line: "no 5 C 26" },
-        Case { at: 7, value: 1, line: "no 3 R 6" },
-        Case { at: 10, value: 8, line: "no 7 C 6" },
-        Case { at: 20, value: 255, line: "no 7 C 16" },
-        Case { at: 30, value: 8, line: "no 7 C 26" },
-        Case { at: 10, value: 2, line: "no 8 C 6" },
-        Case { at: 20, value: 7, line: "no 8 C 16" },
-        Case { at: 30, value: 0, line: "no 8 C 26" },
-        Case { at: 30, value: 1, line: "no 8 C 26" },
-        Case { at: 15, value: 2, line: "no 9 C 6" },
-        Case { at: 25, value: 3, line: "no 9 C 16" },
-        Case { at: 35, value: 4, line: "no 9 C 26" },
-        Case { at: 36, value: 255, line: "no 9 C 26" },
-        Case { at: 11, value: 3, line: "no 11 C 6" },
-        Case { at: 22, value: 1, line: "no 11 C 16" },
-        Case { at: 32, value: 1, line: "no 11 C 26" },
-        Case { at: 26, value: 8, line: "no 3 R 26" },
+        Case {
+            at: 36,
+            value: 3,
+            line: "circuit 2 3 37",
+        },
+        Case {
+            at: 4,
+            value: 0,
+            line: "no 6 C 0",
+        },
+        Case {
+            at: 4,
+            value: 17,
+            line: "no 6 C 0",
+        },
+        Case {
+            at: 5,
+            value: 241,
+            line: "no 6 C 0",
+        },
+        Case {
+            at: 2,
+            value: 2,
+            line: "no 4 C 0",
+        },
+        Case {
+            at: 3,
+            value: 1,
+            line: "no 4 C 0",
+        },
+        Case {
+            at: 0,
+            value: 3,
+            line: "no 5 C 0",
+        },
+        Case {
+            at: 8,
+            value: 1,
+            line: "no 4 C 6",
+        },
+        Case {
+            at: 18,
+            value: 3,
+            line: "no 4 C 16",
+        },
+        Case {
+            at: 29,
+            value: 1,
+            line: "no 4 C 26",
+        },
+        Case {
+            at: 6,
+            value: 5,
+            line: "no 5 C 6",
+        },
+        Case {
+            at: 16,
+            value: 14,
+            line: "no 5 C 16",
+        },
+        Case {
+            at: 26,
+            value: 5,
+            line: "no 5 C 26",
+        },
+        Case {
+            at: 7,
+            value: 1,
+            line: "no 3 R 6",
+        },
+        Case {
+            at: 10,
+            value: 8,
+            line: "no 7 C 6",
+        },
+        Case {
+            at: 20,
+            value: 255,
+            line: "no 7 C 16",
+        },
+        Case {
+            at: 30,
+            value: 8,
+            line: "no 7 C 26",
+        },
+        Case {
+            at: 10,
+            value: 2,
+            line: "no 8 C 6",
+        },
+        Case {
+            at: 20,
+            value: 7,
+            line: "no 8 C 16",
+        },
+        Case {
+            at: 30,
+            value: 0,
+            line: "no 8 C 26",
+        },
+        Case {
+            at: 30,
+            value: 1,
+            line: "no 8 C 26",
+        },
+        Case {
+            at: 15,
+            value: 2,
+            line: "no 9 C 6",
+        },
+        Case {
+            at: 25,
+            value: 3,
+            line: "no 9 C 16",
+        },
+        Case {
+            at: 35,
+            value: 4,
+            line: "no 9 C 26",
+        },
+        Case {
+            at: 36,
+            value: 255,
+            line: "no 9 C 26",
+        },
+        Case {
+            at: 11,
+            value: 3,
+            line: "no 11 C 6",
+        },
+        Case {
+            at: 22,
+            value: 1,
+            line: "no 11 C 16",
+        },
+        Case {
+            at: 32,
+            value: 1,
+            line: "no 11 C 26",
+        },
+        Case {
+            at: 26,
+            value: 8,
+            line: "no 3 R 26",
+        },
     ];
 
     // The file's line is this one.
@@ -88,7 +240,11 @@ mod tests {
     #[test]
     fn bytes_past_the_gates_are_not_looked_at(rt: LibcRuntime) -> Result<(), Fail> {
         expect(rt.alloc(), &[2, 0, 1, 0, 1, 0], "circuit 1 0 6")?;
-        expect(rt.alloc(), &[2, 0, 1, 0, 1, 0, 255, 255, 9], "circuit 1 0 6")
+        expect(
+            rt.alloc(),
+            &[2, 0, 1, 0, 1, 0, 255, 255, 9],
+            "circuit 1 0 6",
+        )
     }
 
     // A head for 16 inputs and so many gates, then 240 gates that each repeat the net before their own.

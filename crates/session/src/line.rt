@@ -14,7 +14,11 @@ use std::fmt;
 #[derive(Clone, Copy)]
 pub enum Line {
     // the circuit that was read: its inputs, its gates, and the bytes that it used
-    Circuit { inputs: u8, gates: usize, used: usize },
+    Circuit {
+        inputs: u8,
+        gates: usize,
+        used: usize,
+    },
     // why the input was refused
     No(Refusal),
 }
@@ -24,7 +28,11 @@ pub impl fmt::Display for Line as LineDisplay {
 
     fn fmt<W: fmt::Write>(&self, f: &mut fmt::Formatter<W>) -> fmt::Result {
         match *self {
-            Line::Circuit { inputs, gates, used } => write!(f, "circuit {inputs} {gates} {used}"),
+            Line::Circuit {
+                inputs,
+                gates,
+                used,
+            } => write!(f, "circuit {inputs} {gates} {used}"),
             Line::No(refusal) => {
                 let Refusal {
                     number,

@@ -16,10 +16,10 @@ ghost use Rattle.netlist.specs.Next.{rest};
 ghost use Rattle.netlist.specs.Outcome.{TellsOnly, LayoutDetermines, outcomeOf};
 ghost use Rattle.netlist.specs.Step.{Announces, FieldsOf, FunctionFault, GatesTaken, Stops, Tells, Passed, Describes};
 use crate::circuit::Circuit;
+use crate::fault::CircuitFault;
 use crate::fault::convert::CircuitFaultFromAlloc;
 use crate::fault::convert::CircuitFaultFromRecord;
 use crate::fault::convert::CircuitFaultFromRefused;
-use crate::fault::CircuitFault;
 use crate::gate::Gate;
 use crate::gate::Net;
 use crate::reader::Reader;
@@ -83,7 +83,15 @@ struct GateFields<'a> {
 fn fields(payload: &[u8]) -> Option<GateFields<'_>>
     ensures { λ r. ⌜ Options.Cases r (sizeDue (gate 0) (length (now (payload .entry))) ≡ false) (λ f. FieldsOf (now (payload .entry)) f) ⌝ }
 {
-    let [code, least_low, least_high, greatest_low, greatest_high, pins @ ..] = payload else {
+    let [
+        code,
+        least_low,
+        least_high,
+        greatest_low,
+        greatest_high,
+        pins @ ..,
+    ] = payload
+    else {
         return None;
     };
     if !is_pin_count(pins.len()) {
@@ -163,7 +171,12 @@ fn read_gate(heap: Global, reader: &mut Reader<'_>, own: usize) -> Result<Gate, 
 }
 
 // The announced gates, one after the other from the reader's place.
-fn read_gates(heap: Global, reader: &mut Reader<'_>, inputs: u8, count: u8) -> Result<Vec<Gate>, CircuitFault>
+fn read_gates(
+    heap: Global,
+    reader: &mut Reader<'_>,
+    inputs: u8,
+    count: u8,
+) -> Result<Vec<Gate>, CircuitFault>
     ensures same { λ r. ⌜ now (now (reader .exit) .bytes) ≡ now (now (reader .entry) .bytes) ⌝ }
     ensures taken { λ r. ⌜ Cases r (λ v. GatesTaken (now (now (reader .entry) .bytes)) (now (reader .entry) .at) inputs (plainGates (vec-items v)) (now (reader .exit) .at) × (vec-len v ≡ count)) (λ e. Stops e (now (now (reader .entry) .bytes)) (now (reader .entry) .at) inputs count) ⌝ }
 {

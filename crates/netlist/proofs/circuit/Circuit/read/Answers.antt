@@ -31,8 +31,7 @@ pub ghost-result : need.ghost-result
 ghost-result c =
     let taken = c .in-Continue-gates .ensures tt .taken in
     let gates = c .in-Continue-gates .gates in
-    let all = length-map (vec-items gates) plainGate ∙ sym (gates .ok .0) ∙ taken .1 in
-    (
+    let all = length-map (vec-items gates) plainGate ∙ sym (gates .ok .0) ∙ taken .1 in (
       file-accepted (c .args .bytes .now) (c .new-reader .result) (c .read-head .last .reader) (c .in-Continue-head .head) (plainGates (vec-items gates)) (c .read-gates .last .reader .at) (c .new-reader .ensures .place) (c .new-reader .ensures .bytes) (c .in-Continue-head .ensures tt .taken) (taken .0) all .valid,
       tt,
     )

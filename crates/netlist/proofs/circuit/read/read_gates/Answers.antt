@@ -26,7 +26,7 @@ returns-in-Break-gate c =
     record {
       same = told .same ∙ inv .0;
       taken = rw (p .1, p .2) (stops (c .in-Break-gate .field-0 .0) (c .args .reader .now .bytes .now) (c .args .reader .now .at) (c .args .inputs) (c .args .count) gs (c .loop-i .reader .at) _ (inv .2) fewer next
-        (subst (λ bs. Tells (c .in-Break-gate .field-0 .0) (firstBroken (gate (c .from-in-loop-i .result + c .from-in-loop-i-2 .result)) (drop (c .loop-i .reader .at) bs)) (c .loop-i .reader .at)) (inv .0) (told .taken)));
+          (subst (λ bs. Tells (c .in-Break-gate .field-0 .0) (firstBroken (gate (c .from-in-loop-i .result + c .from-in-loop-i-2 .result)) (drop (c .loop-i .reader .at) bs)) (c .loop-i .reader .at)) (inv .0) (told .taken)));
     }
 
 pub loop-i-again : need.loop-i-again
@@ -44,11 +44,10 @@ loop-i-again c =
     let passed = told .taken .0 in
     let so-far : GatesTaken here place (c .args .inputs) gs at = subst (λ bs. GatesTaken bs place (c .args .inputs) gs at) (sym (inv .0)) (inv .2) in
     let more = taken-more here place (c .args .inputs) gs at _ g so-far next (passed .kept) (passed .low-length) (passed .low-kind) (told .taken .1) in
-    let items : plainGates (vec-items (c .push .last .self)) ≡ gs ++ plainGate g ∷ [] = ap plainGates (pushed .items) ∙ plain-more (vec-items (c .loop-i .gates)) g in
-    (
+    let items : plainGates (vec-items (c .push .last .self)) ≡ gs ++ plainGate g ∷ [] = ap plainGates (pushed .items) ∙ plain-more (vec-items (c .loop-i .gates)) g in (
       told .same ∙ inv .0,
       pushed .len ∙ ap (λ n. n + 1) (inv .1),
       subst (λ hs. GatesTaken (now (c .args .reader .now .bytes)) place (c .args .inputs) hs (c .read-gate .last .reader .at)) (sym items)
-      (subst (λ n. GatesTaken (now (c .args .reader .now .bytes)) place (c .args .inputs) (gs ++ plainGate g ∷ []) n) (sym (passed .moved))
-      (subst (λ bs. GatesTaken bs place (c .args .inputs) (gs ++ plainGate g ∷ []) (at + 4 + lengthOf (drop at here))) (inv .0) more)),
+          (subst (λ n. GatesTaken (now (c .args .reader .now .bytes)) place (c .args .inputs) (gs ++ plainGate g ∷ []) n) (sym (passed .moved))
+          (subst (λ bs. GatesTaken bs place (c .args .inputs) (gs ++ plainGate g ∷ []) (at + 4 + lengthOf (drop at here))) (inv .0) more)),
     )
