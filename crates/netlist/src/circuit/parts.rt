@@ -2,6 +2,7 @@
 ghost use mathlib.Core.Path.{_≡_};
 ghost use Prim.Native.Nat.{_≤_};
 ghost use lib.ListN.{length};
+ghost use Rattle.std.specs.Of.Vec.{vec-len};
 ghost use Rattle.netlist.specs.Circuit.{netCount};
 ghost use Rattle.netlist.specs.Plain.{plainGates};
 ghost use Rattle.netlist.specs.View.{plain};
@@ -23,12 +24,19 @@ impl Circuit {
         self.gates.as_slice()
     }
 
+    // How many gates are stored.
+    fn stored(&self) -> usize
+        ensures { λ r. ⌜ r ≡ vec-len (now (self .entry) .gates) ⌝ }
+    {
+        self.gates.len()
+    }
+
     // How many gates there are.
     pub fn gate_count(&self) -> usize
         ensures value { λ r. ⌜ r ≡ length (plain (now (self .entry)) .gates) ⌝ }
         ensures bound { λ r. ⌜ r ≤ 240 ⌝ }
     {
-        self.gates.len()
+        self.stored()
     }
 
     // How many nets there are: the inputs and the gates.

@@ -17,4 +17,4 @@ returns c =
     let count = length (plainGates (vec-items (held .gates))) in
     let few = leb-true count 240 (and-parts (leb 1 (held .inputs) && leb (held .inputs) 16) (leb count 240) (and-parts (goodHead (held .inputs) count) _ (so _ (held .valid)) .0) .1) in
     let is = length-map (vec-items (held .gates)) plainGate in
-    record { value = c .len .ensures ∙ held .gates .ok .0 ∙ sym is; bound = omega (arith, c .len .ensures, held .gates .ok .0, is, few) }
+    record { value = c .stored .ensures ∙ held .gates .ok .0 ∙ sym is; bound = omega (arith, c .stored .ensures, held .gates .ok .0, is, few) }
