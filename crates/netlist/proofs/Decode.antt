@@ -2,7 +2,7 @@
 use mathlib.Core.Path.{_≡_, refl, sym, ap, _∙_}
 use mathlib.Core.Bool.{Bool, true, false}
 use mathlib.Core.List.{List, [], _∷_, _++_, append-assoc}
-use Prim.Native.Nat.{ℕ, _+_, _*_, _/_, _%_, _≤_, _<_}
+use Prim.Native.Nat.{ℕ, zero, suc, _+_, _*_, _/_, _%_, _≤_, _<_}
 use native.Mathlib.Omega.{arith}
 use lib.ListN.{length, getD, take, drop, length-append}
 use lib.Seq.{take-at, drop-at, drop-drop}
@@ -72,6 +72,18 @@ function-back Or = refl
 function-back Nor = refl
 function-back Xor = refl
 function-back Xnor = refl
+
+-- the code of the function of a code
+pub code-back : (n : ℕ) → n ≤ 7 → described (functionFrom n) .code ≡ n
+code-back zero h = refl
+code-back (suc zero) h = refl
+code-back (suc (suc zero)) h = refl
+code-back (suc (suc (suc zero))) h = refl
+code-back (suc (suc (suc (suc zero)))) h = refl
+code-back (suc (suc (suc (suc (suc zero))))) h = refl
+code-back (suc (suc (suc (suc (suc (suc zero)))))) h = refl
+code-back (suc (suc (suc (suc (suc (suc (suc zero))))))) h = refl
+code-back (suc (suc (suc (suc (suc (suc (suc (suc n)))))))) h = absurd (omega arith)
 
 -- what a pin count that the function takes says of the rules for size, code and count
 abbrev Counted : Function → ℕ → Type 0

@@ -2,13 +2,14 @@
 use mathlib.Core.Path.{_≡_, refl, sym, ap, subst, _∙_}
 use mathlib.Core.Bool.{Bool, true, false}
 use mathlib.Core.List.{List, [], _∷_, _++_, append-assoc, append-nil}
+use mathlib.Core.Logic.{_⊎_, inl, inr}
 use Prim.Native.Nat.{ℕ, zero, suc, _+_, _-_, _≤_, _<_}
 use native.Mathlib.Omega.{arith}
 use native.Mathlib.Nat.{add-zero, zero-add, add-assoc}
 use denote.Ref.{now}
-use lib.Dec.{T}
+use lib.Dec.{T, lit<}
 use lib.ListN.{length, getD, take, drop, length-append, take-append-drop}
-use lib.Seq.{drop-drop, take-at, drop-at}
+use lib.Seq.{drop-drop, take-at, drop-at, getD-drop}
 use Rattle.std.specs.Options.{mapped}
 use Rattle.std.specs.declared.option.Option.{Option}
 use Rattle.std.specs.declared.option.Option.the-variants.{Some, None}
@@ -19,14 +20,15 @@ use Rattle.netlist.specs.declared.reader.Reader.{Reader}
 use Rattle.netlist.specs.Next.{rest}
 use Rattle.netlist.specs.Circuit.{PlainGate, PlainCircuit, validGate, validGates, validCircuit, goodHead}
 use Rattle.netlist.specs.Record.{lengthOf, payloadOf}
-use Rattle.netlist.specs.Rules.{Due, head, gate, Rule, firstBroken}
+use Rattle.netlist.specs.Rules.{Due, head, gate, Rule, firstBroken, codeOf}
 use Rattle.netlist.specs.Layout.{headBytes, gateBytes, gatesBytes, layout}
 use Rattle.netlist.specs.declared.fault.CircuitFault.{CircuitFault}
 use Rattle.netlist.specs.Fault.{refusal, refusalOf, ruleOf, placeOf}
-use Rattle.netlist.specs.Step.{Announces, Passed, GatesTaken, Stopped, Stops, StopsBy, Tells, TellsRule, placeTold}
-use Rattle.netlist.specs.Outcome.{Outcome, accepted, refused, Accepted, Refused, GatesBefore, DueAt, Has, Only, TellsOnly, refusedAs, LayoutDetermines}
-use Rattle.netlist.proofs.Written.{head-good, head-written, head-size}
-use Rattle.netlist.proofs.Decode.{so, yes-so, gateFrom, gatePayload, gate-back, gate-kept, head-kept, length-back, payload-back, rest-back}
+use Rattle.netlist.specs.Step.{Announces, Passed, Describes, GatesTaken, Stopped, Stops, StopsBy, Tells, TellsRule, placeTold}
+use Rattle.netlist.specs.Outcome.{Outcome, accepted, refused, Accepted, Refused, GatesBefore, DueAt, Has, Only, TellsOnly, refusedAs, AllBytes, OneOutcome, LayoutDetermines}
+use Rattle.netlist.proofs.Written.{code-known, head-good, head-written, head-size}
+use Rattle.netlist.proofs.Gates.{none-taken, taken-more}
+use Rattle.netlist.proofs.Decode.{so, yes-so, code-back, gateFrom, gatePayload, gate-back, gate-kept, head-kept, length-back, payload-back, rest-back}
 
 -- refused by a broken rule, else what follows
 abbrev unlessBroken : Option Rule → ℕ → Outcome → Outcome
@@ -246,3 +248,69 @@ started-not bytes before e first same tells =
 pub file-accepted : (bytes : List ℕ) (before mid : Reader) (h : Head) (gs : List PlainGate) (after : ℕ) → before .at ≡ 0 → now (before .bytes) ≡ bytes → Passed head before mid × Announces (payloadOf (rest before)) h → GatesTaken (now (mid .bytes)) (mid .at) (h .inputs) gs after → length gs ≡ h .gates → Accepted bytes (record { inputs = h .inputs; gates = gs }) after
 file-accepted bytes before mid h gs after first same told taken all =
     started-accepted bytes (h .inputs) (h .gates) mid (started bytes before mid h first same (told .0) (told .1)) gs after taken all
+
+-- none, or some rule
+decided : (o : Option Rule) → (o ≡ None) ⊎ ((r : Rule) × (o ≡ Some r))
+decided None = inl refl
+decided (Some r) = inr (r, refl)
+
+bytes-behind : (at : ℕ) (bytes : List ℕ) → AllBytes bytes → AllBytes (drop at bytes)
+bytes-behind at bytes all i = rw (getD-drop at bytes i 0) (all (at + i))
+
+-- a part at the front reads as the bytes do, or as 0 past its end
+bytes-front : (n : ℕ) (bytes : List ℕ) → AllBytes bytes → AllBytes (take n bytes)
+bytes-front zero bytes all i = lit< tt
+bytes-front (suc n) [] all i = lit< tt
+bytes-front (suc n) (b ∷ bytes) all zero = all 0
+bytes-front (suc n) (b ∷ bytes) all (suc i) = bytes-front n bytes (λ k. all (suc k)) i
+
+-- the gate of a payload that keeps every rule is the one that it describes
+payload-describes : (p : List ℕ) → AllBytes p → codeOf p ≤ 7 → Describes p (gateFrom p)
+payload-describes p all known =
+    let low = all 3 in
+    let high = all 4 in
+    record {
+      code = code-back (codeOf p) known;
+      least = refl;
+      greatest = refl;
+      pins = refl;
+      low-least = all 1;
+      low-greatest = low;
+      most = omega arith;
+    }
+
+-- behind a good head, the outcome that is worked out is one that the bytes have
+module _ (bytes : List ℕ) (all : AllBytes bytes) (inputs count : ℕ) (kept : firstBroken head bytes ≡ None) (is-inputs : inputs ≡ getD (payloadOf bytes) 0 0) (is-count : count ≡ getD (payloadOf bytes) 1 0) where
+  has-behind : (left : ℕ) (gs : List PlainGate) (at : ℕ) → GatesTaken bytes 6 inputs gs at → length gs + left ≡ count → Has bytes (gatesOutcome inputs left (inputs + length gs) at gs (drop at bytes))
+  has-behind zero gs at taken left = read-accepted bytes inputs count gs at kept (all 0) (all 2) is-inputs is-count taken (sym (add-zero (length gs)) ∙ left)
+  has-behind (suc n) gs at taken left =
+      let bs = drop at bytes in
+      let own = inputs + length gs in
+      let g = gateFrom (payloadOf bs) in
+      let after = at + 4 + lengthOf bs in
+      let fewer : length gs < count = omega (arith, left) in
+      let next = gatesOutcome inputs n (own + 1) (at + (4 + lengthOf bs)) (gs ++ g ∷ []) (drop (4 + lengthOf bs) bs) in
+      let here = bytes-behind at bytes all in
+      elim (decided (firstBroken (gate own) bs)) [ inl e ↦
+          let more = taken-more bytes 6 inputs gs at own g taken refl e (here 0) (here 2) (payload-describes (payloadOf bs) (bytes-front (lengthOf bs) (drop 4 bs) (bytes-behind 4 bs here)) (code-known own bs e)) in
+          let count-more : length (gs ++ g ∷ []) + n ≡ count = omega (arith, length-append gs (g ∷ []), left) in
+          let own-more : inputs + length (gs ++ g ∷ []) ≡ own + 1 = omega (arith, length-append gs (g ∷ [])) in
+          let far : after ≡ at + (4 + lengthOf bs) = add-assoc at 4 (lengthOf bs) in
+          let behind : drop after bytes ≡ drop (4 + lengthOf bs) bs = ap (λ k. drop k bytes) far ∙ sym (drop-drop (4 + lengthOf bs) at bytes) in
+          subst (λ o. Has bytes (unlessBroken o at next)) (sym e)
+          (subst (Has bytes) (λ i. gatesOutcome inputs n (own-more i) (far i) (gs ++ g ∷ []) (behind i)) (has-behind n (gs ++ g ∷ []) after more count-more))
+        | inr (r, e) ↦
+          subst (λ o. Has bytes (unlessBroken o at next)) (sym e)
+          (read-stopped bytes inputs count r at kept (all 0) (all 2) is-inputs is-count (record { gates = gs; after = at; fewer = fewer; taken = taken; broken = e; there = refl }))
+      ]
+
+-- every list of bytes has an outcome, and just one
+pub one-outcome : OneOutcome
+one-outcome bytes all =
+    elim (decided (firstBroken head bytes)) [ inl e ↦
+        (outcome bytes, only bytes (outcome bytes) (subst (λ o. Has bytes (unlessBroken o 0 (gatesOutcome (getD (payloadOf bytes) 0 0) (getD (payloadOf bytes) 1 0) (getD (payloadOf bytes) 0 0) 6 [] (drop 6 bytes)))) (sym e)
+          (subst (λ k. Has bytes (gatesOutcome (getD (payloadOf bytes) 0 0) (getD (payloadOf bytes) 1 0) k 6 [] (drop 6 bytes))) (add-zero (getD (payloadOf bytes) 0 0))
+            (has-behind bytes all (getD (payloadOf bytes) 0 0) (getD (payloadOf bytes) 1 0) e refl refl (getD (payloadOf bytes) 1 0) [] 6 (none-taken bytes 6 (getD (payloadOf bytes) 0 0)) (zero-add _)))))
+      | inr (r, e) ↦
+        (refused (refusal r 0), only bytes (refused (refusal r 0)) (record { due = head; rule = r; place = 0; reached = refl; broken = e; told = refl }))
+    ]

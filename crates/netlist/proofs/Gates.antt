@@ -41,11 +41,10 @@ plain-more gs g = map-append plainGate gs (g ∷ [])
 pub none-taken : (bytes : List ℕ) (place own : ℕ) → GatesTaken bytes place own [] place
 none-taken bytes place own = record { valid = tt; stands = refl; moved = sym (add-zero place) }
 
-pub taken-more : (bytes : List ℕ) (place own : ℕ) (gs : List PlainGate) (at next : ℕ) (g : Gate) → GatesTaken bytes place own gs at → next ≡ own + length gs → firstBroken (gate next) (drop at bytes) ≡ None → getD (drop at bytes) 0 0 < 256 → getD (drop at bytes) 2 0 < 256 → Describes (payloadOf (drop at bytes)) g → GatesTaken bytes place own (gs ++ plainGate g ∷ []) (at + 4 + lengthOf (drop at bytes))
-taken-more bytes place own gs at next g taken follows held low0 low2 is =
+pub taken-more : (bytes : List ℕ) (place own : ℕ) (gs : List PlainGate) (at next : ℕ) (h : PlainGate) → GatesTaken bytes place own gs at → next ≡ own + length gs → firstBroken (gate next) (drop at bytes) ≡ None → getD (drop at bytes) 0 0 < 256 → getD (drop at bytes) 2 0 < 256 → Describes (payloadOf (drop at bytes)) h → GatesTaken bytes place own (gs ++ h ∷ []) (at + 4 + lengthOf (drop at bytes))
+taken-more bytes place own gs at next h taken follows held low0 low2 is =
     let kept = subst (λ n. firstBroken (gate n) (drop at bytes) ≡ None) follows held in
     let bs = drop at bytes in
-    let h = plainGate g in
     let after = at + 4 + lengthOf bs in
     let written = gate-written (own + length gs) bs kept h (is .code) (is .least) (is .greatest) (is .pins) low0 low2 (is .low-least) (is .low-greatest) in
     let size = gate-size (own + length gs) bs kept h (is .code) (is .least) (is .greatest) (is .pins) in

@@ -76,6 +76,14 @@ module _ (own : ℕ) (bs : List ℕ) (kept : firstBroken (gate own) bs ≡ None)
       let sizes = and-parts (leb 6 (length p)) (leb (length p) 13) (size .0) in
       (cut .0, eqb-true (kindOf bs) 2 (kind .0), leb-true 6 (length p) (sizes .0), leb-true (length p) 13 (sizes .1), count .0, lower .0, delays .0)
 
+  pub code-known : codeOf (payloadOf bs) ≤ 7
+  code-known =
+      let p = payloadOf bs in
+      let cut = not-cut (cutShort bs) _ _ kept in
+      let kind = kept-first (eqb (kindOf bs) 2) _ _ (cut .1) in
+      let size = kept-first (leb 6 (length p) && leb (length p) 13) _ _ (kind .1) in
+      leb-true (codeOf p) 7 (kept-first (leb (codeOf p) 7) _ _ (size .1) .0)
+
   module _ (g : PlainGate) (code : described (g .function) .code ≡ codeOf (payloadOf bs)) (least : g .least ≡ leastOf (payloadOf bs)) (greatest : g .greatest ≡ greatestOf (payloadOf bs)) (pins : g .pins ≡ pinsOf (payloadOf bs)) where
     pub gate-written : getD bs 0 0 < 256 → getD bs 2 0 < 256 → getD (payloadOf bs) 1 0 < 256 → getD (payloadOf bs) 3 0 < 256 → bs ≡ gateBytes g ++ drop (4 + lengthOf bs) bs
     gate-written low0 low2 low1 low3 =

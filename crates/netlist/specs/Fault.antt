@@ -14,9 +14,6 @@ use Rattle.netlist.specs.Rules as rules
 abbrev pub refusal : rules.Rule → ℕ → Refusal
 refusal r place = record { number = rules.number r; layer = rules.layer r; place = place }
 
-abbrev pub recordRefusal : RecordFault → Refusal
-recordRefusal (CutShort place) = refusal rules.whole place
-
 -- the rule that a fault says is broken; want of memory breaks none
 abbrev pub ruleOf : CircuitFault → Option rules.Rule
 ruleOf (Record f) = Some rules.whole
@@ -29,8 +26,13 @@ ruleOf (Pin place) = Some rules.lower
 ruleOf (Delays place) = Some rules.delays
 ruleOf Memory = None
 
+-- the place of the record that is cut short
 abbrev pub recordPlace : RecordFault → ℕ
 recordPlace (CutShort place) = place
+
+-- the refusal that a fault of the reader stands for
+abbrev pub recordRefusal : RecordFault → Refusal
+recordRefusal f = refusal rules.whole (recordPlace f)
 
 -- the place of the record that breaks it
 abbrev pub placeOf : CircuitFault → ℕ

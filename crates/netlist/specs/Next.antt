@@ -23,7 +23,7 @@ pub record Taken (before after : Reader) (r : Record) : Type 0 where
   pub payload : now (r .payload) ≡ payloadOf (rest before)
   pub size : length (now (r .payload)) ≡ lengthOf (rest before)
   pub moved : after .at ≡ before .at + 4 + lengthOf (rest before)
-  -- the low bytes of length and kind are bytes
+  -- the low bytes of length and kind are below 256, so that they are what the two numbers are written as
   pub low-length : getD (rest before) 0 0 < 256
   pub low-kind : getD (rest before) 2 0 < 256
   pub same : now (after .bytes) ≡ now (before .bytes)

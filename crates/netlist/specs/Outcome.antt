@@ -3,7 +3,7 @@ use mathlib.Core.Path.{_≡_}
 use mathlib.Core.List.{List, _++_}
 use Prim.Native.Nat.{ℕ, _+_, _<_}
 use lib.Dec.{T}
-use lib.ListN.{length, take, drop}
+use lib.ListN.{length, getD, take, drop}
 use Rattle.std.specs.declared.option.Option.{Option}
 use Rattle.std.specs.declared.option.Option.the-variants.{Some, None}
 use Rattle.std.specs.declared.result.Result.{Result}
@@ -62,6 +62,14 @@ Has bytes (refused r) = Refused bytes r
 -- the bytes have this outcome and no other
 abbrev pub Only : List ℕ → Outcome → Type 0
 Only bytes o = Has bytes o × ((other : Outcome) → Has bytes other → other ≡ o)
+
+-- every number of the list is a byte
+abbrev pub AllBytes : List ℕ → Type 0
+AllBytes bytes = (i : ℕ) → getD bytes i 0 < 256
+
+-- every list of bytes has an outcome, and just one
+abbrev pub OneOutcome : Type 0
+OneOutcome = (bytes : List ℕ) → AllBytes bytes → ((o : Outcome) × Only bytes o)
 
 -- the outcome that an answer of the program stands for; none for want of memory
 abbrev pub refusedAs : Option Refusal → Option Outcome

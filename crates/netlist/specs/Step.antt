@@ -7,19 +7,17 @@ use Prim.Native.Nat.{ℕ, _+_, _≤_, _<_}
 use denote.Ref.{now}
 use lib.Dec.{T, leb}
 use lib.ListN.{length, getD, drop}
-use Rattle.std.specs.Of.Vec.{vec-items}
 use Rattle.std.specs.declared.option.Option.{Option}
 use Rattle.std.specs.declared.option.Option.the-variants.{Some, None}
 use Rattle.waveform.specs.Function.{described}
 use Rattle.netlist.specs.declared.reader.Reader.{Reader}
-use Rattle.netlist.specs.declared.gate.Gate.{Gate}
 use Rattle.netlist.specs.declared.circuit.read.GateFields.{GateFields}
 use Rattle.netlist.specs.declared.circuit.read.Head.{Head}
 use Rattle.netlist.specs.declared.fault.CircuitFault.{CircuitFault}
 use Rattle.netlist.specs.declared.fault.CircuitFault.the-variants.{Code, PinCount}
 use Rattle.netlist.specs.Circuit.{PlainGate, validGates}
 use Rattle.netlist.specs.Layout.{gatesBytes}
-use Rattle.netlist.specs.Record.{lengthOf, payloadOf}
+use Rattle.netlist.specs.Record.{lengthOf}
 use Rattle.netlist.specs.Rules.{Due, gate, Rule, sizeDue, codeOf, leastOf, greatestOf, pinsOf, countDue, firstBroken}
 use Rattle.netlist.specs.Fault.{ruleOf, placeOf}
 use Rattle.netlist.specs.Next.{rest}
@@ -41,7 +39,7 @@ Tells e broken place = TellsRule (ruleOf e) broken × (placeOf e ≡ placeTold (
 -- the record keeps every rule and the reader has moved past it
 pub record Passed (due : Due) (before after : Reader) : Type 0 where
   pub kept : firstBroken due (rest before) ≡ None
-  -- the low bytes of length and kind are bytes
+  -- the low bytes of length and kind are below 256, so that they are what the two numbers are written as
   pub low-length : getD (rest before) 0 0 < 256
   pub low-kind : getD (rest before) 2 0 < 256
   pub moved : after .at ≡ before .at + 4 + lengthOf (rest before)
@@ -53,17 +51,17 @@ pub record Announces (payload : List ℕ) (h : Head) : Type 0 where
   pub gates : h .gates ≡ getD payload 1 0
 
 -- the gate is the one that the payload describes
-pub record Describes (payload : List ℕ) (g : Gate) : Type 0 where
+pub record Describes (payload : List ℕ) (g : PlainGate) : Type 0 where
   pub code : described (g .function) .code ≡ codeOf payload
   pub least : g .least ≡ leastOf payload
   pub greatest : g .greatest ≡ greatestOf payload
-  pub pins : vec-items (g .pins) ≡ pinsOf payload
-  -- the low bytes of the delays are bytes, and a delay fits two bytes
+  pub pins : g .pins ≡ pinsOf payload
+  -- the low bytes of the delays are below 256, so that they are what the delays are written as; a delay fits two bytes
   pub low-least : getD payload 1 0 < 256
   pub low-greatest : getD payload 3 0 < 256
   pub most : g .greatest ≤ 65535
 
--- the payload has a gate's size, and these are its fields
+-- the payload has a gate's size, which is the same for every net, and these are its fields
 pub record FieldsOf (payload : List ℕ) (f : GateFields) : Type 0 where
   pub size : sizeDue (gate 0) (length payload) ≡ true
   pub code : f .code ≡ codeOf payload

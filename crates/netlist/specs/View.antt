@@ -1,10 +1,8 @@
 -- The circuits of the program as plain values. Assumes nothing.
-use mathlib.Core.List.{List, map}
 use Rattle.std.specs.Of.Vec.{vec-items}
-use Rattle.netlist.specs.declared.gate.Gate.{Gate}
 use Rattle.netlist.specs.declared.circuit.Circuit.{Circuit}
-use Rattle.netlist.specs.Circuit.{PlainGate, PlainCircuit}
-use Rattle.netlist.specs.Plain.{plainGate, plainGates}
+use Rattle.netlist.specs.Circuit.{PlainCircuit}
+use Rattle.netlist.specs.Plain.{plainGates}
 
 -- a circuit of the program, as a plain value
 abbrev pub plain : Circuit → PlainCircuit

@@ -47,7 +47,7 @@ pub enum CircuitFault {
     Record(RecordFault),
     // the kind is not the one due here
     Kind { place: usize },
-    // the payload's size is not one of a head or of a gate
+    // the payload's size is not one that the record due here has
     Size { place: usize },
     // the head announces too few or too many inputs, or too many gates
     Limits { place: usize },

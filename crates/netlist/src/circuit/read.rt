@@ -2,18 +2,18 @@
 ghost use mathlib.Core.Path.{_≡_};
 ghost use mathlib.Core.Bool.{true, false, _&&_};
 ghost use lib.Dec.{leb, ltb};
-ghost use lib.ListN.{length, getD};
+ghost use lib.ListN.{length};
 ghost use Rattle.std.specs.Of.Vec.{vec-items, vec-len};
 ghost use Rattle.std.specs.Options;
 ghost use Rattle.std.specs.Results.{Cases};
 ghost use Rattle.std.specs.declared.option.Option.the-variants.{None};
 ghost use Rattle.waveform.specs.Function.{described};
-ghost use Rattle.netlist.specs.Circuit.{allBelow, goodHead};
-ghost use Rattle.netlist.specs.Plain.{plainGates};
+ghost use Rattle.netlist.specs.Circuit.{allBelow};
+ghost use Rattle.netlist.specs.Plain.{plainGate, plainGates};
 ghost use Rattle.netlist.specs.Record.{payloadOf};
 ghost use Rattle.netlist.specs.Rules.{head, gate, checks, firstOf, firstBroken, sizeDue, countDue};
 ghost use Rattle.netlist.specs.Next.{rest};
-ghost use Rattle.netlist.specs.Outcome.{TellsOnly, LayoutDetermines, outcomeOf};
+ghost use Rattle.netlist.specs.Outcome.{LayoutDetermines, OneOutcome, TellsOnly, outcomeOf};
 ghost use Rattle.netlist.specs.Step.{Announces, FieldsOf, FunctionFault, GatesTaken, Stops, Tells, Passed, Describes};
 use crate::circuit::Circuit;
 use crate::fault::CircuitFault;
@@ -107,7 +107,7 @@ fn fields(payload: &[u8]) -> Option<GateFields<'_>>
 
 // The gate that a payload describes, its own net having the number `own`.
 fn gate_from(heap: Global, place: usize, payload: &[u8], own: usize) -> Result<Gate, CircuitFault>
-    ensures { λ r. ⌜ Cases r (λ g. (firstOf (gate own) 2 (now (payload .entry)) (checks (gate own)) ≡ None) × Describes (now (payload .entry)) g) (λ e. Tells e (firstOf (gate own) 2 (now (payload .entry)) (checks (gate own))) place) ⌝ }
+    ensures { λ r. ⌜ Cases r (λ g. (firstOf (gate own) 2 (now (payload .entry)) (checks (gate own)) ≡ None) × Describes (now (payload .entry)) (plainGate g)) (λ e. Tells e (firstOf (gate own) 2 (now (payload .entry)) (checks (gate own))) place) ⌝ }
 {
     let Some(fields) = fields(payload) else {
         return Err(CircuitFault::Size { place });
@@ -159,7 +159,7 @@ fn read_head(reader: &mut Reader<'_>) -> Result<Head, CircuitFault>
 // The gate at the reader's place, its own net having the number `own`.
 fn read_gate(heap: Global, reader: &mut Reader<'_>, own: usize) -> Result<Gate, CircuitFault>
     ensures same { λ r. ⌜ now (now (reader .exit) .bytes) ≡ now (now (reader .entry) .bytes) ⌝ }
-    ensures taken { λ r. ⌜ Cases r (λ g. Passed (gate own) (now (reader .entry)) (now (reader .exit)) × Describes (payloadOf (rest (now (reader .entry)))) g) (λ e. Tells e (firstBroken (gate own) (rest (now (reader .entry)))) (now (reader .entry) .at)) ⌝ }
+    ensures taken { λ r. ⌜ Cases r (λ g. Passed (gate own) (now (reader .entry)) (now (reader .exit)) × Describes (payloadOf (rest (now (reader .entry)))) (plainGate g)) (λ e. Tells e (firstBroken (gate own) (rest (now (reader .entry)))) (now (reader .entry) .at)) ⌝ }
 {
     let record = reader.next()?;
     if record.kind != 2 {
@@ -192,6 +192,7 @@ impl Circuit {
     // The circuit that a file describes, and how many bytes of the file it used.
     pub fn read(heap: Global, bytes: &[u8]) -> Result<(Circuit, usize), CircuitFault>
         ensures outcome { λ r. ⌜ TellsOnly (now (bytes .entry)) (outcomeOf r) ⌝ }
+        ensures one { λ r. ⌜ OneOutcome ⌝ }
         ensures layout { λ r. ⌜ LayoutDetermines ⌝ }
     {
         let mut reader = Reader::new(bytes);

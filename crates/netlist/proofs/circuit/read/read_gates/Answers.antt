@@ -43,7 +43,7 @@ loop-i-again c =
     let g = c .in-Continue-gate .gate in
     let passed = told .taken .0 in
     let so-far : GatesTaken here place (c .args .inputs) gs at = subst (λ bs. GatesTaken bs place (c .args .inputs) gs at) (sym (inv .0)) (inv .2) in
-    let more = taken-more here place (c .args .inputs) gs at _ g so-far next (passed .kept) (passed .low-length) (passed .low-kind) (told .taken .1) in
+    let more = taken-more here place (c .args .inputs) gs at _ (plainGate g) so-far next (passed .kept) (passed .low-length) (passed .low-kind) (told .taken .1) in
     let items : plainGates (vec-items (c .push .last .self)) ≡ gs ++ plainGate g ∷ [] = ap plainGates (pushed .items) ∙ plain-more (vec-items (c .loop-i .gates)) g in (
       told .same ∙ inv .0,
       pushed .len ∙ ap (λ n. n + 1) (inv .1),
