@@ -30,7 +30,7 @@ fn next_word(text: &str) -> Option<(&str, &str)>
     }
 }
 
-// The class at this place of the array, if the array has it.
+// Puts the class at this place of the array; nothing changes if the array has no such place.
 fn put(pins: &mut [Class; 8], place: usize, class: Class)
     ensures { λ _. ⌜ now (pins .exit) ≡ set (now (pins .entry)) place class ⌝ }
 {

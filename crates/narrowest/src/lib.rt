@@ -1,7 +1,8 @@
 // Gate evaluation at the thirteen classes and at the three values gives the narrowest value that contains every output.
 ghost use mathlib.Core.Path.{_≡_};
 ghost use Rattle.waveform.specs.Algebra.{evaluated};
-ghost use Rattle.waveform.specs.Class.{In};
+ghost use Rattle.waveform.specs.Class.{In, Narrower};
+ghost use Rattle.waveform.specs.declared.class.Class.{Class as OneClass};
 ghost use Rattle.waveform.specs.Function.{described};
 ghost use Rattle.waveform.specs.Narrowest.{Contains, Narrowest};
 ghost use Rattle.waveform.specs.Ops.{classOps, threeOps};
@@ -34,6 +35,7 @@ fn folded_values(function: Function, pins: &[Three]) -> Three
 pub fn evaluate_classes(function: Function, pins: &[Class]) -> Class
     ensures value { λ r. ⌜ r ≡ evaluated classOps function (now (pins .entry)) ⌝ }
     ensures narrowest { λ r. ⌜ Narrowest In (described function .truth) (now (pins .entry)) r ⌝ }
+    ensures none_narrower { λ r. ⌜ ((u : OneClass) → Narrower u r → Contains In (described function .truth) (now (pins .entry)) u → ⊥) ⌝ }
 {
     folded_classes(function, pins)
 }

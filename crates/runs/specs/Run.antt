@@ -1,14 +1,15 @@
 -- Runs: one delay for each gate, one waveform for each net, obeying the gate rule. Assumes nothing.
 use mathlib.Core.Path.{_≡_}
-use mathlib.Core.Bool.{Bool, true, false, cond}
-use mathlib.Core.List.{List, [], _∷_, map}
+use mathlib.Core.Bool.{false, cond}
+use mathlib.Core.List.{List, [], map}
 use Prim.Native.Nat.{ℕ, _+_, _≤_, _<_}
 use lib.Dec.{ltb}
 use lib.IntN.{ℤ, pos, _+ℤ_}
 use lib.Signed.{_≤ℤ_}
-use lib.ListN.{length, getD, take}
+use lib.ListN.{length, getD}
 use Rattle.signals.specs.Waveform.{Waveform, Rising, FlipsAt, constant}
 use Rattle.signals.specs.GateRule.{GateRule}
+pub use Rattle.signals.specs.Holding.{Before}
 use Rattle.waveform.specs.declared.class.Class.{Class}
 use Rattle.waveform.specs.declared.class.Class.the-variants.{C000}
 use Rattle.waveform.specs.declared.function.Function.the-variants.{Buf}
@@ -42,14 +43,10 @@ pub record RunOf (c : PlainCircuit) (run : Run) : Type 0 where
   pub obeys : (k : ℕ) → k < length (c .gates) →
       GateRule (described (gateAt c k .function) .truth) (map (wave run) (gateAt c k .pins)) (getD (run .delays) k 0) (wave run (c .inputs + k))
 
--- each input's waveform lies in its class
+-- each input's waveform lies in its class; an input that the list does not reach is constant 0
 abbrev pub InClasses : PlainCircuit → List Class → Run → Type 0
 InClasses c classes run = (i : ℕ) → i < c .inputs → In (getD classes i C000) (wave run i)
 
 -- every flip of v comes at least s ticks after every flip of w
 abbrev pub Separated : Waveform → Waveform → ℤ → Type 0
 Separated w v s = (t u : ℕ) → FlipsAt w t → FlipsAt v u → (pos t +ℤ s) ≤ℤ pos u
-
--- every flip of w comes strictly before every flip of v
-abbrev pub Before : Waveform → Waveform → Type 0
-Before w v = (t u : ℕ) → FlipsAt w t → FlipsAt v u → t < u

@@ -1,18 +1,14 @@
 // A row: the class of a net, its bounds from each input, and its held pins.
 use waveform::Class;
 
-// the most inputs that a circuit has, and the most pins that a gate has
-pub const INPUTS: usize = 16;
-
-pub const PINS: usize = 8;
-
-// every flip comes lo to hi ticks after a flip of the input
+// a flip comes lo to hi ticks after a flip of the input that it comes from
 #[derive(Clone, Copy)]
 pub struct Bounds {
     pub lo: u32,
     pub hi: u32,
 }
 
+// a circuit has at most 16 inputs, and a gate at most 8 pins
 #[derive(Clone, Copy)]
 pub struct Row {
     pub class: Class,

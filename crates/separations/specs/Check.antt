@@ -29,7 +29,7 @@ latest table times b (suc n) = raised (spacingAt table n b) (getD times n 0) (la
 abbrev pub Limited : Table → Type 0
 Limited table = (a b : ℕ) (s : ℤ) → a < 16 → b < 16 → spacingAt table a b ≡ Some s → s ≤ℤ pos 65535
 
--- no time is so large that a sum with a spacing could pass 32 bits
+-- every time is at most 2 ^ 20, far below what a sum in 64 bits holds
 abbrev pub Moderate : List ℕ → Type 0
 Moderate times = (i : ℕ) → i < 16 → getD times i 0 ≤ 2 ^ 20
 

@@ -12,21 +12,21 @@ use crate::table::INPUTS;
 use crate::table::Spacings;
 
 // The time, raised where the spacing after the other time asks it.
-fn raise(spacing: Option<i32>, from: u32, time: u32) -> u32
+fn raise(spacing: Option<i32>, from: u64, time: u64) -> u64
     requires { ⌜ ((s : ℤ) → spacing ≡ Some s → s ≤ℤ pos 65535) ⌝ ∗ ⌜ from ≤ 2 ^ 20 ⌝ }
     ensures { λ r. ⌜ r ≡ raised spacing from time ⌝ }
 {
     let Some(s) = spacing else { return time };
-    let sum = i64::from(from) + i64::from(s);
-    if sum > i64::from(time) {
-        sum as u32
+    let sum = from as i64 + i64::from(s);
+    if sum > 0 && sum as u64 > time {
+        sum as u64
     } else {
         time
     }
 }
 
 // The time of input b, raised where its spacing after input a asks it.
-fn raise_after(spacing: &Spacings, times: &[u32; INPUTS], a: usize, b: usize, time: u32) -> u32
+fn raise_after(spacing: &Spacings, times: &[u64; INPUTS], a: usize, b: usize, time: u64) -> u64
     requires { ⌜ Limited (now spacing) ⌝ ∗ ⌜ Moderate (now times) ⌝ ∗ ⌜ a < 16 ⌝ ∗ ⌜ b < 16 ⌝ }
     ensures { λ r. ⌜ r ≡ raised (spacingAt (now (spacing .entry)) a b) (getD (now (times .entry)) a 0) time ⌝ }
 {
@@ -34,7 +34,7 @@ fn raise_after(spacing: &Spacings, times: &[u32; INPUTS], a: usize, b: usize, ti
 }
 
 // The time of input b after one pass.
-fn time_after(spacing: &Spacings, times: &[u32; INPUTS], b: usize) -> u32
+fn time_after(spacing: &Spacings, times: &[u64; INPUTS], b: usize) -> u64
     requires { ⌜ Limited (now spacing) ⌝ ∗ ⌜ Moderate (now times) ⌝ ∗ ⌜ b < 16 ⌝ }
     ensures { λ r. ⌜ r ≡ latest (now (spacing .entry)) (now (times .entry)) b 16 ⌝ }
 {
@@ -46,7 +46,7 @@ fn time_after(spacing: &Spacings, times: &[u32; INPUTS], b: usize) -> u32
 }
 
 // The times after one pass.
-fn pass(spacing: &Spacings, times: &[u32; INPUTS]) -> [u32; INPUTS]
+fn pass(spacing: &Spacings, times: &[u64; INPUTS]) -> [u64; INPUTS]
     requires { ⌜ Limited (now spacing) ⌝ ∗ ⌜ Moderate (now times) ⌝ }
     ensures { λ r. ⌜ r ≡ passed (now (spacing .entry)) (now (times .entry)) ⌝ }
 {
@@ -58,7 +58,7 @@ fn pass(spacing: &Spacings, times: &[u32; INPUTS]) -> [u32; INPUTS]
 }
 
 // The times after sixteen passes.
-fn passes(spacing: &Spacings) -> [u32; INPUTS]
+fn passes(spacing: &Spacings) -> [u64; INPUTS]
     requires { ⌜ Limited (now spacing) ⌝ }
     ensures { λ r. ⌜ r ≡ timesAfter (now (spacing .entry)) 16 ⌝ }
 {

@@ -30,6 +30,7 @@ use Rattle.waveform.specs.Ops.{classOps}
 use Rattle.waveform.specs.Narrowest.{Members}
 use Rattle.waveform.proofs.Contains.{evaluated-contains}
 use Rattle.waveform.proofs.ClassSound.{class-sound}
+use Rattle.waveform.proofs.Control.{controlled}
 use Rattle.waveform.proofs.Delay.{classes-ignore-delay}
 use Rattle.netlist.specs.Circuit.{PlainGate, PlainCircuit, validCircuit, netCount}
 use Rattle.runs.specs.declared.row.Row.{Row}
@@ -44,33 +45,6 @@ use Rattle.settling_theory.proofs.Prefix.{listed-length, listed-at, rows-lengt
 use Rattle.settling_theory.proofs.Held.{held-inside, held-rule}
 use Rattle.settling_theory.proofs.Bounds.{tight-rows}
 
--- a 0 among the values makes the conjunction 0, a 1 the disjunction 1
-some-zero : (bs : List Bool) → Among false bs → allOnes bs ≡ false
-some-zero [] h = absurd h
-some-zero (true ∷ bs) (inl e) = absurd (let z : _≡_ {A = ℕ} 0 1 = cc in omega arith)
-some-zero (true ∷ bs) (inr h) = some-zero bs h
-some-zero (false ∷ bs) h = refl
-
-some-one : (bs : List Bool) → Among true bs → someOne bs ≡ true
-some-one [] h = absurd h
-some-one (true ∷ bs) h = refl
-some-one (false ∷ bs) (inl e) = absurd (let z : _≡_ {A = ℕ} 0 1 = cc in omega arith)
-some-one (false ∷ bs) (inr h) = some-one bs h
-
--- the control value of a function fixes its output
-pub controlled : (f : Function) (control : Bool) → described f .control ≡ Some control → Controlled (described f .truth) control
-controlled Buf control e = absurd (let z : _≡_ {A = ℕ} 0 1 = cc in omega arith)
-controlled Not control e = absurd (let z : _≡_ {A = ℕ} 0 1 = cc in omega arith)
-controlled And true e = absurd (let z : _≡_ {A = ℕ} 0 1 = cc in omega arith)
-controlled And false e = λ bs cs p q. some-zero bs p ∙ sym (some-zero cs q)
-controlled Nand true e = absurd (let z : _≡_ {A = ℕ} 0 1 = cc in omega arith)
-controlled Nand false e = λ bs cs p q. ap not (some-zero bs p ∙ sym (some-zero cs q))
-controlled Or true e = λ bs cs p q. some-one bs p ∙ sym (some-one cs q)
-controlled Or false e = absurd (let z : _≡_ {A = ℕ} 0 1 = cc in omega arith)
-controlled Nor true e = λ bs cs p q. ap not (some-one bs p ∙ sym (some-one cs q))
-controlled Nor false e = absurd (let z : _≡_ {A = ℕ} 0 1 = cc in omega arith)
-controlled Xor control e = absurd (let z : _≡_ {A = ℕ} 0 1 = cc in omega arith)
-controlled Xnor control e = absurd (let z : _≡_ {A = ℕ} 0 1 = cc in omega arith)
 
 -- the value that a letter allows is the one it fixes
 pub allowed-value : (x : Three) (b v : Bool) → x ≡ letter b → T (three.described x .allows v) → v ≡ b

@@ -4,3 +4,4 @@ pub mod ThreeSound
 pub mod ClassSound
 pub mod Folding
 pub mod Delay
+pub mod Control

@@ -36,7 +36,7 @@ pub record Description : Type 0 where
   pub name : List ℕ
   -- its value for the values of its pins
   pub truth : List Bool → Bool
-  -- the value of one pin that fixes the output whatever the others are, if there is one
+  -- for two pins or more: the value of one pin that fixes the output whatever the others are, if there is one
   pub control : Option Bool
   -- the fewest and the most pins it may have
   pub fewest : ℕ

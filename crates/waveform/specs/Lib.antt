@@ -6,3 +6,4 @@ pub mod Narrowest
 pub mod Ops
 pub mod Delay
 pub mod Examples
+pub mod Control

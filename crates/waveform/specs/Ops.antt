@@ -1,4 +1,4 @@
--- The operations of the two algebras that the bench uses: the three values and the thirteen classes. Assumes nothing.
+-- The operations of the two algebras that are used here: the three values and the thirteen classes. Assumes nothing.
 use mathlib.Core.Bool.{Bool, true, false, _&&_, _||_, cond}
 use Prim.Native.Nat.{ℕ}
 use lib.Dec.{eqb}

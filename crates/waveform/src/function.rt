@@ -81,7 +81,7 @@ impl Function {
         }
     }
 
-    // The value of one pin that fixes the output, if there is one.
+    // For two pins or more, the value of one pin that fixes the output, if there is one.
     pub fn control(self) -> Option<bool>
         ensures { λ r. ⌜ r ≡ described self .control ⌝ }
     {

@@ -14,5 +14,6 @@ pub use class::ClassDisplay;
 pub use evaluation::evaluate;
 pub use function::Function;
 pub use theorems::classes_ignore_delay;
+pub use theorems::control_values_fix_outputs;
 pub use theorems::gate_examples_hold;
 pub use three::Three;

@@ -7,4 +7,5 @@ use Rattle.narrowest.proofs.evaluate_classes.Needs as need
 pub returns : need.returns
 returns c =
     let e = c .folded-classes .ensures .value in
-    record { value = e; narrowest = narrowest-from In _ (c .args .pins .now) _ _ (class-least (c .args .function) (c .args .pins .now)) e (c .folded-classes .ensures .contains) }
+    let least = narrowest-from In _ (c .args .pins .now) _ _ (class-least (c .args .function) (c .args .pins .now)) e (c .folded-classes .ensures .contains) in
+    record { value = e; narrowest = least; none-narrower = λ u narrower contains. narrower .1 (least .least u contains) }
