@@ -9,7 +9,7 @@ use std::fmt;
 pub mod convert;
 
 // The layer that finds a fault, printed as one letter.
-#[derive(Clone, Copy, Debug)]
+#[derive(Clone, Copy)]
 pub enum Layer {
     Reader,
     Circuit,
@@ -27,7 +27,7 @@ pub impl fmt::Display for Layer as LayerDisplay {
 }
 
 // A refusal: its number, the layer that found it, and the place of the record in the file.
-#[derive(Clone, Copy, Debug)]
+#[derive(Clone, Copy)]
 pub struct Refusal {
     pub number: u8,
     pub layer: Layer,
@@ -35,14 +35,14 @@ pub struct Refusal {
 }
 
 // A fault of the reader.
-#[derive(Clone, Copy, Debug)]
+#[derive(Clone, Copy)]
 pub enum RecordFault {
     // the record at this place is cut short, in its four head bytes or in its payload
     CutShort { place: usize },
 }
 
 // A fault of the circuit file, with the place of the record that has it.
-#[derive(Clone, Copy, Debug)]
+#[derive(Clone, Copy)]
 pub enum CircuitFault {
     Record(RecordFault),
     // the kind is not the one due here
