@@ -1,0 +1,7 @@
+pub mod Places
+pub mod Valid
+pub mod Growth
+pub mod Parts
+pub mod Steps
+pub mod Values
+pub mod Laws

@@ -1,0 +1,4 @@
+pub mod Tables
+pub mod Asked
+pub mod Resting
+pub mod Told
