@@ -1,11 +1,11 @@
 -- Tests of every number below a limit: their steps, and what they give. Assumes nothing.
 use mathlib.Core.Path.{_≡_, refl, sym, ap, _∙_}
-use mathlib.Core.Bool.{Bool, true, false, _&&_, _||_}
-use mathlib.Core.Logic.{_⊎_, inl, inr, ⊎-elim}
+use mathlib.Core.Bool.{Bool, true, false, _||_}
+use mathlib.Core.Logic.{inl, inr, ⊎-elim}
 use Prim.Native.Nat.{ℕ, zero, suc, _+_, _≤_, _<_}
 use native.Mathlib.Numerals.{add-one}
 use native.Mathlib.Omega.{arith}
-use Rattle.std.proofs.shelf.Tests.{false≢true, true≢false, and-parts, and-from, and-left, and-right, or-cases, or-from, or-left, or-right, cases-eq, cases-lt}
+use Rattle.std.proofs.shelf.Tests.{false≢true, and-parts, and-from, and-left, and-right, or-cases, or-from, or-left, or-right, cases-eq, cases-lt}
 use Rattle.ordering.specs.Rows.{someBelow, everyBelow}
 
 or-false : (x y : Bool) → y ≡ false → (x || y) ≡ x
@@ -93,4 +93,5 @@ every-at test (suc n) h k l =
 
 -- the steps of a loop that looks for a number that passes, and of one that looks for a number that fails
 pub ruleset somes = (some-none, some-more, some-yes, some-no)
+
 pub ruleset everys = (every-none, every-more, every-yes, every-no)

@@ -1,9 +1,9 @@
 -- The laws of a chain layer, from those of the source below it. Assumes nothing.
 use mathlib.Core.Path.{_≡_}
-use mathlib.Core.Bool.{Bool, true, _&&_, _||_}
+use mathlib.Core.Bool.{Bool, true}
 use mathlib.Core.List.{List}
 use mathlib.Core.Logic.{⊎-elim}
-use Prim.Native.Nat.{ℕ, _<_}
+use Prim.Native.Nat.{ℕ}
 use native.Mathlib.Omega.{arith}
 use Rattle.std.proofs.shelf.Tests.{and-parts, or-cases}
 use Rattle.netlist.specs.Circuit.{PlainCircuit}
@@ -34,11 +34,11 @@ chain-first under law seps c rows q p valid h run isRun met ok =
     ⊎-elim
     (λ e. law seps c rows q p valid e run isRun met ok)
     (λ e t u f g.
-      let m = middle (under seps c rows) c rows q p e in
-      let one = clean-net-once c rows run ok (m .net) (m .clean) in
-      let early = law seps c rows q (m .net) valid (m .after) run isRun met ok t (one .0) f (one .1) in
-      let late = law seps c rows (m .net) p valid (m .until) run isRun met ok (one .0) u (one .1) g in
-      omega arith)
+    let m = middle (under seps c rows) c rows q p e in
+    let one = clean-net-once c rows run ok (m .net) (m .clean) in
+    let early = law seps c rows q (m .net) valid (m .after) run isRun met ok t (one .0) f (one .1) in
+    let late = law seps c rows (m .net) p valid (m .until) run isRun met ok (one .0) u (one .1) g in
+    omega arith)
     (or-cases _ _ h)
 
 pub chain-third : (under : Says) → YesHasRows under → YesHasRows (chained under)
@@ -46,5 +46,5 @@ chain-third under law seps c rows q p h =
     ⊎-elim
     (law seps c rows q p)
     (λ e. let m = middle (under seps c rows) c rows q p e in
-      (law seps c rows q (m .net) (m .after) .0, law seps c rows (m .net) p (m .until) .1))
+    (law seps c rows q (m .net) (m .after) .0, law seps c rows (m .net) p (m .until) .1))
     (or-cases _ _ h)

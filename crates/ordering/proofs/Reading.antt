@@ -1,15 +1,14 @@
 -- What rows that are true in a run tell of clean nets and of inputs. Assumes nothing.
 use mathlib.Core.Path.{_≡_, refl, sym, _∙_, subst}
-use mathlib.Core.Bool.{Bool, true, false, _&&_, cond}
+use mathlib.Core.Bool.{Bool, true, false, cond}
 use mathlib.Core.List.{List}
 use Prim.Native.Nat.{ℕ, _+_, _-_, _≤_, _<_}
 use native.Mathlib.Omega.{arith}
 use lib.Dec.{T, ltb}
-use lib.ListN.{length}
-use Rattle.std.proofs.shelf.Tests.{ltb-true, ltb-false, lt-ltb, and-parts, false≢true}
+use Rattle.std.proofs.shelf.Tests.{ltb-true, and-parts}
 use Rattle.std.specs.declared.option.Option.{Option}
-use Rattle.std.specs.declared.option.Option.the-variants.{Some, None}
-use Rattle.signals.specs.Waveform.{Waveform, FlipsAt, constant}
+use Rattle.std.specs.declared.option.Option.the-variants.{Some}
+use Rattle.signals.specs.Waveform.{FlipsAt, constant}
 use Rattle.signals.proofs.Waveforms.{both-parts}
 use Rattle.waveform.specs.Class.{isClean}
 use Rattle.netlist.specs.Circuit.{PlainCircuit, netCount, validGate, validCircuit}
@@ -66,7 +65,7 @@ pub apart-by-input : (c : PlainCircuit) (rows : List Row) (run : Run) → RowsTr
     f .bounds .hi < g .bounds .lo → t < u
 apart-by-input c rows run ok x y t u f g e clean l =
     let same = clean-input-once c rows run ok (g .input) clean (f .cause) (g .cause)
-          (subst (λ (i : ℕ). FlipsAt (inputWave c run i) (f .cause)) e (f .flips)) (g .flips) in
+    (subst (λ (i : ℕ). FlipsAt (inputWave c run i) (f .cause)) e (f .flips)) (g .flips) in
     omega (arith, f .until, g .after)
 
 -- the gate of a net is valid there

@@ -1,21 +1,17 @@
 -- The laws of the same-input source. Assumes nothing.
-use mathlib.Core.Path.{_≡_, refl, sym, ap, _∙_, subst}
-use mathlib.Core.Bool.{Bool, true, false, not, _&&_, _||_}
+use mathlib.Core.Path.{_≡_, sym, ap, _∙_, subst}
+use mathlib.Core.Bool.{true, false, _&&_, _||_}
 use mathlib.Core.List.{List}
-use mathlib.Core.Logic.{_⊎_, inl, inr, ⊎-elim}
-use Prim.Native.Nat.{ℕ, _+_, _≤_, _<_}
-use native.Mathlib.Omega.{arith}
-use lib.Dec.{T, eqb}
-use Rattle.std.proofs.shelf.Tests.{and-parts, or-cases, or-left, or-right, not-true, eqb-true, true≢false, false≢true}
+use mathlib.Core.Logic.{⊎-elim}
+use Prim.Native.Nat.{ℕ}
+use lib.Dec.{eqb}
+use Rattle.std.proofs.shelf.Tests.{and-parts, or-cases, or-left, or-right, not-true, eqb-true, false≢true}
 use Rattle.std.specs.declared.option.Option.{Option}
-use Rattle.std.specs.declared.option.Option.the-variants.{Some, None}
-use Rattle.signals.specs.Waveform.{Waveform, FlipsAt}
-use Rattle.netlist.specs.Circuit.{PlainCircuit, validCircuit}
+use Rattle.std.specs.declared.option.Option.the-variants.{Some}
+use Rattle.netlist.specs.Circuit.{PlainCircuit}
 use Rattle.runs.specs.declared.row.Bounds.{Bounds}
 use Rattle.runs.specs.declared.row.Row.{Row}
-use Rattle.runs.specs.Run.{Run, wave, inputWave}
-use Rattle.runs.specs.Row.{Bounded, HasRow, RowTrue, RowsTrue, boundsFrom, rowAt}
-use Rattle.runs.proofs.Circuits.{counts-good}
+use Rattle.runs.specs.Row.{boundsFrom, rowAt}
 use Rattle.ordering.specs.Rows.{someBelow, everyBelow, hasRow, cleanInput, isGiven, below}
 use Rattle.ordering.specs.Source.{YesIsBefore, YesHasRows}
 use Rattle.ordering.specs.SameInput.{noneBut, onlyInput, sameInput}
@@ -58,13 +54,13 @@ same-input-first seps c rows q p valid h run isRun met ok t u f g =
     let x = its-row-true c rows run ok q (k .q-row) .bounded t f in
     let y = its-row-true c rows run ok p (k .p-row) .bounded u g in
     let a : x .input ≡ k .input =
-      only-one (k .input) (rowAt rows q) (rowAt rows p) (x .input)
-      (every-at (noneBut (k .input) (rowAt rows q) (rowAt rows p)) 16 (k .alone) (x .input) (input-below c valid run (x .input) (x .cause) (x .flips)))
-      (or-left _ _ (given-some _ _ (x .given))) in
+    only-one (k .input) (rowAt rows q) (rowAt rows p) (x .input)
+    (every-at (noneBut (k .input) (rowAt rows q) (rowAt rows p)) 16 (k .alone) (x .input) (input-below c valid run (x .input) (x .cause) (x .flips)))
+    (or-left _ _ (given-some _ _ (x .given))) in
     let b : y .input ≡ k .input =
-      only-one (k .input) (rowAt rows q) (rowAt rows p) (y .input)
-      (every-at (noneBut (k .input) (rowAt rows q) (rowAt rows p)) 16 (k .alone) (y .input) (input-below c valid run (y .input) (y .cause) (y .flips)))
-      (or-right _ _ (given-some _ _ (y .given))) in
+    only-one (k .input) (rowAt rows q) (rowAt rows p) (y .input)
+    (every-at (noneBut (k .input) (rowAt rows q) (rowAt rows p)) 16 (k .alone) (y .input) (input-below c valid run (y .input) (y .cause) (y .flips)))
+    (or-right _ _ (given-some _ _ (y .given))) in
     apart-by-input c rows run ok (rowAt rows q) (rowAt rows p) t u x y (a ∙ sym b) (subst (λ (i : ℕ). cleanInput c rows i ≡ true) (sym b) (k .clean))
     (below-parts _ _ (k .apart) (x .bounds) (y .bounds) (ap (boundsFrom (rowAt rows q)) (sym a) ∙ x .given) (ap (boundsFrom (rowAt rows p)) (sym b) ∙ y .given))
 

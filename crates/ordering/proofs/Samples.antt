@@ -1,11 +1,11 @@
 -- One waveform of each class, with at most one flip, at a tick of one's choice. Assumes nothing.
 use mathlib.Core.Path.{_≡_, sym}
-use mathlib.Core.Bool.{Bool, true, false, _&&_}
-use mathlib.Core.List.{List, [], _∷_}
-use mathlib.Core.Logic.{_⊎_, inl, inr, ⊎-elim}
+use mathlib.Core.Bool.{Bool, true, false}
+use mathlib.Core.List.{[], _∷_}
+use mathlib.Core.Logic.{⊎-elim}
 use Prim.Native.Nat.{ℕ, zero-le}
-use lib.Dec.{T, leb, le→leb}
-use Rattle.signals.specs.Waveform.{Waveform, Rising, FlipsAt, constant, risingFrom}
+use lib.Dec.{leb, le→leb}
+use Rattle.signals.specs.Waveform.{Waveform, Rising, FlipsAt, constant}
 use Rattle.signals.proofs.Waveforms.{has-cases, from-both}
 use Rattle.waveform.specs.declared.class.Class.{Class}
 use Rattle.waveform.specs.declared.class.Class.the-variants.{C000, C111, C0R1, C1F0, C0X0, C0X1, C1X0, C1X1, C0XX, C1XX, CXX0, CXX1, CXXX}

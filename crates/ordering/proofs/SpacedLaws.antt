@@ -1,5 +1,5 @@
 -- The laws of the spaced source. Assumes nothing.
-use mathlib.Core.Path.{_≡_, refl, sym, ap, _∙_, subst}
+use mathlib.Core.Path.{_≡_, refl, sym, subst}
 use mathlib.Core.Bool.{Bool, true, false, _&&_, cond}
 use mathlib.Core.List.{List}
 use Prim.Native.Nat.{ℕ, _+_, _≤_, _<_}
@@ -13,15 +13,14 @@ use Rattle.std.proofs.shelf.Signed.{ints}
 use Rattle.std.proofs.shelf.Tests.{and-parts, eqb-true, ltb-true, false≢true}
 use Rattle.std.specs.declared.option.Option.{Option}
 use Rattle.std.specs.declared.option.Option.the-variants.{Some, None}
-use Rattle.signals.specs.Waveform.{Waveform, FlipsAt}
 use Rattle.waveform.specs.declared.class.Class.{Class}
 use Rattle.waveform.specs.declared.class.Class.the-variants.{C000}
 use Rattle.netlist.specs.Circuit.{PlainCircuit}
 use Rattle.runs.specs.declared.row.Bounds.{Bounds}
 use Rattle.runs.specs.declared.row.Row.{Row}
-use Rattle.runs.specs.Run.{Run, Separated, inputWave}
+use Rattle.runs.specs.Run.{Run, inputWave}
 use Rattle.runs.specs.Row.{Bounded, RowsTrue, boundsFrom, rowAt}
-use Rattle.separations.specs.Separations.{Separation, Meets, MeetsAll, spacingIn, separation}
+use Rattle.separations.specs.Separations.{Separation, Meets, MeetsAll, spacingIn}
 use Rattle.separations.proofs.Lists.{found}
 use Rattle.ordering.specs.Rows.{everyBelow, hasRow, cleanInput}
 use Rattle.ordering.specs.Source.{Meeting, MetBy, Met, YesIsBefore, YesHasRows}
@@ -57,17 +56,21 @@ apart-by-agreement seps c rows run met ok x y t u f g h = same (eqb j i) refl to
   where
     j : ℕ
     j = f .input
+
     i : ℕ
     i = g .input
+
     told-of : cond (eqb j i) (cleanInput c rows i && ltb (f .bounds .hi) (g .bounds .lo)) (spacedBy (spacingIn j i seps) (f .bounds) (g .bounds)) ≡ true
     told-of =
         subst (λ (o : Option Bounds). agreed seps c rows j i (Some (f .bounds)) o ≡ true) (g .given)
         (subst (λ (o : Option Bounds). agreed seps c rows j i o (boundsFrom y i) ≡ true) (f .given) h)
+
     held : (o : Option ℤ) → spacingIn j i seps ≡ o → spacedBy o (f .bounds) (g .bounds) ≡ true → t < u
     held None e k = absurd (false≢true k)
     held (Some s) e k =
         apart-by-spacing s (f .bounds) (g .bounds) (f .cause) (g .cause) t u k
         (found (Meeting (inputWave c run)) j i s seps met e (f .cause) (g .cause) (f .flips) (g .flips)) (f .until) (g .after)
+
     same : (b : Bool) → eqb j i ≡ b → cond b (cleanInput c rows i && ltb (f .bounds .hi) (g .bounds .lo)) (spacedBy (spacingIn j i seps) (f .bounds) (g .bounds)) ≡ true → t < u
     same true e k =
         let p = and-parts _ _ k in
@@ -81,8 +84,8 @@ spaced-first seps c rows q p valid h run isRun met ok t u f g =
     let y = its-row-true c rows run ok p (k .p-row) .bounded u g in
     apart-by-agreement seps c rows run met ok (rowAt rows q) (rowAt rows p) t u x y
     (every-at (agrees seps c rows (rowAt rows q) (rowAt rows p) (x .input)) 16
-      (every-at (agreesWithAll seps c rows (rowAt rows q) (rowAt rows p)) 16 (k .all) (x .input) (input-below c valid run (x .input) (x .cause) (x .flips)))
-      (y .input) (input-below c valid run (y .input) (y .cause) (y .flips)))
+    (every-at (agreesWithAll seps c rows (rowAt rows q) (rowAt rows p)) 16 (k .all) (x .input) (input-below c valid run (x .input) (x .cause) (x .flips)))
+    (y .input) (input-below c valid run (y .input) (y .cause) (y .flips)))
 
 pub spaced-third : YesHasRows spaced
 spaced-third seps c rows q p h =

@@ -1,8 +1,8 @@
 -- The laws of a stem layer, from those of the source below it. Assumes nothing.
 use mathlib.Core.Path.{_≡_, refl, sym, ap, _∙_, subst}
-use mathlib.Core.Bool.{Bool, true, false, not, _&&_, _||_, cond}
-use mathlib.Core.List.{List, [], _∷_}
-use mathlib.Core.Logic.{_⊎_, inl, inr, ⊎-elim}
+use mathlib.Core.Bool.{Bool, true, false, _||_, cond}
+use mathlib.Core.List.{List}
+use mathlib.Core.Logic.{⊎-elim}
 use Prim.Native.Nat.{ℕ, zero, suc, _+_, _-_, _≤_, _<_}
 use native.Mathlib.Omega.{arith}
 use lib.Dec.{T, eqb, ltb}
@@ -13,20 +13,20 @@ use Rattle.std.specs.declared.option.Option.the-variants.{Some, None}
 use Rattle.std.specs.Options.{isSome}
 use Rattle.signals.specs.Waveform.{FlipsAt}
 use Rattle.waveform.specs.Class.{isConstant}
-use Rattle.netlist.specs.Circuit.{PlainGate, PlainCircuit, validCircuit, netCount}
+use Rattle.netlist.specs.Circuit.{PlainCircuit, validCircuit}
 use Rattle.runs.specs.declared.row.Bounds.{Bounds}
 use Rattle.runs.specs.declared.row.Row.{Row}
 use Rattle.runs.specs.Run.{Run, RunOf, wave, gateAt}
 use Rattle.runs.specs.Gathered.{delayed}
-use Rattle.runs.specs.Row.{Caused, HasRow, RowTrue, RowsTrue, heldAt, rowAt}
-use Rattle.runs.proofs.Circuits.{GoodGate, gate-good}
+use Rattle.runs.specs.Row.{Caused, RowsTrue, heldAt, rowAt}
+use Rattle.runs.proofs.Circuits.{gate-good}
 use Rattle.runs.proofs.Classes.{flip-not-constant}
-use Rattle.ordering.specs.Rows.{someBelow, rowCount, hasRow, cleanNet, below}
+use Rattle.ordering.specs.Rows.{someBelow, rowCount, cleanNet, below}
 use Rattle.ordering.specs.Source.{Says, YesIsBefore, YesHasRows}
 use Rattle.ordering.specs.Stem.{allTied, livePin, liveTies, tieOf, tiesBelow, tie, tiedApart, stemmed}
 use Rattle.ordering.proofs.Below.{some-at}
-use Rattle.ordering.proofs.Reading.{has-row, its-row-true, clean-net-once, below-parts}
-use Rattle.ordering.proofs.Ties.{length-ties, last-tie, longer-pass, tied-below, tied-live}
+use Rattle.ordering.proofs.Reading.{clean-net-once}
+use Rattle.ordering.proofs.Ties.{last-tie, longer-pass, tied-below, tied-live}
 
 -- every flip of a tied net lies within its bounds after tick t0
 abbrev TiesHold : Run → ℕ → List (Option Bounds) → Type 0
@@ -51,8 +51,8 @@ gate-tied : (c : PlainCircuit) (rows : List Row) (run : Run) → T (validCircuit
     (t0 + (j .lo + gateAt c k .least) ≤ t) × (t ≤ t0 + (j .hi + gateAt c k .greatest))
 gate-tied c rows run valid isRun ok k l n e m t0 ts holds j h t f =
     let r = tied-live rows ts (rowAt rows n) 0 (f .place) (gateAt c k .pins) None j h (f .exists)
-          (subst (λ (i : ℕ). livePin rows (rowAt rows n) i (getD (gateAt c k .pins) (f .place) 0) ≡ true) (omega arith)
-            (cause-live c rows run valid ok k l (omega arith) t (rowAt rows n) f)) in
+    (subst (λ (i : ℕ). livePin rows (rowAt rows n) i (getD (gateAt c k .pins) (f .place) 0) ≡ true) (omega arith)
+    (cause-live c rows run valid ok k l (omega arith) t (rowAt rows n) f)) in
     let w = holds (getD (gateAt c k .pins) (f .place) 0) (r .0) (r .1) (f .cause) (f .flips) in
     let d = isRun .within k l in
     (omega (arith, f .delayed, r .2, d .0, w .0), omega (arith, f .delayed, r .3, d .1, w .1))
@@ -65,12 +65,16 @@ net-tied c rows run valid isRun ok s t0 once ts holds n l b h t f = itself (eqb 
   where
     k : ℕ
     k = n - c .inputs
+
     Within : Type 0
     Within = (t0 + b .lo ≤ t) × (t ≤ t0 + b .hi)
+
     none-tied : None ≡ Some b → Within
     none-tied e = let z : _≡_ {A = ℕ} 0 1 = cc in absurd (omega arith)
+
     pins : Option Bounds
     pins = allTied None (liveTies rows ts (rowAt rows n) 0 (gateAt c k .pins))
+
     gate : c .inputs ≤ n → (o : Option Bounds) → pins ≡ o → delayed (gateAt c k) o ≡ Some b → Within
     gate m None e g = none-tied g
     gate m (Some j) e g =
@@ -79,9 +83,11 @@ net-tied c rows run valid isRun ok s t0 once ts holds n l b h t f = itself (eqb 
         let r = gate-tied c rows run valid isRun ok k (omega arith) n at-n (omega arith) t0 ts holds j e t caused in
         let same : record { lo = j .lo + gateAt c k .least; hi = j .hi + gateAt c k .greatest } ≡ b = cc in
         (omega (arith, r .0, ap (λ (x : Bounds). x .lo) same), omega (arith, r .1, ap (λ (x : Bounds). x .hi) same))
+
     other : (x : Bool) → (ltb n (c .inputs) || isConstant (rowAt rows n .class)) ≡ x → cond x None (delayed (gateAt c k) pins) ≡ Some b → Within
     other true e g = none-tied g
     other false e g = gate (ltb-false n (c .inputs) (or-parts _ _ e .0)) pins refl g
+
     itself : (x : Bool) → eqb n s ≡ x →
         cond x (Some (record { lo = 0; hi = 0 })) (cond (ltb n (c .inputs) || isConstant (rowAt rows n .class)) None (delayed (gateAt c k) pins)) ≡ Some b → Within
     itself true e g =
@@ -99,10 +105,10 @@ nets-tied c rows run valid isRun ok s t0 once (suc n) l k b h t f =
     let before = nets-tied c rows run valid isRun ok s t0 once n (omega arith) in
     ⊎-elim
     (λ e. net-tied c rows run valid isRun ok s t0 once (tiesBelow c rows s n) before n (omega arith) b
-      (sym (last-tie c rows s n) ∙ subst (λ (i : ℕ). getD (tiesBelow c rows s (suc n)) i None ≡ Some b) e h) t (subst (λ (i : ℕ). FlipsAt (wave run i) t) e f))
+    (sym (last-tie c rows s n) ∙ subst (λ (i : ℕ). getD (tiesBelow c rows s (suc n)) i None ≡ Some b) e h) t (subst (λ (i : ℕ). FlipsAt (wave run i) t) e f))
     (⊎-elim
-      (λ m. before k b (sym (longer-pass c rows s n k m) ∙ h) t f)
-      (λ m. absurd (omega (arith, tied-below c rows s (suc n) k b h))))
+    (λ m. before k b (sym (longer-pass c rows s n k m) ∙ h) t f)
+    (λ m. absurd (omega (arith, tied-below c rows s (suc n) k b h))))
     (cases-order k n)
 
 -- the stem, and the two nets tied to it
@@ -132,12 +138,12 @@ stem-first under law seps c rows q p valid h run isRun met ok =
     ⊎-elim
     (λ e. law seps c rows q p valid e run isRun met ok)
     (λ e t u f g.
-      let s = stem c rows q p e in
-      let one = clean-net-once c rows run ok (s .net) (s .clean) in
-      let held = nets-tied c rows run valid isRun ok (s .net) (one .0) (one .2) (rowCount c rows) (omega arith) in
-      let x = held q (s .early) (s .q-tied) t f in
-      let y = held p (s .late) (s .p-tied) u g in
-      omega (arith, s .apart, x .1, y .0))
+    let s = stem c rows q p e in
+    let one = clean-net-once c rows run ok (s .net) (s .clean) in
+    let held = nets-tied c rows run valid isRun ok (s .net) (one .0) (one .2) (rowCount c rows) (omega arith) in
+    let x = held q (s .early) (s .q-tied) t f in
+    let y = held p (s .late) (s .p-tied) u g in
+    omega (arith, s .apart, x .1, y .0))
     (or-cases _ _ h)
 
 pub stem-third : (under : Says) → YesHasRows under → YesHasRows (stemmed under)
@@ -145,7 +151,7 @@ stem-third under law seps c rows q p h =
     ⊎-elim
     (law seps c rows q p)
     (λ e. let s = stem c rows q p e in
-      let x = tied-below c rows (s .net) (rowCount c rows) q (s .early) (s .q-tied) in
-      let y = tied-below c rows (s .net) (rowCount c rows) p (s .late) (s .p-tied) in
-      ((omega arith, omega arith), (omega arith, omega arith)))
+    let x = tied-below c rows (s .net) (rowCount c rows) q (s .early) (s .q-tied) in
+    let y = tied-below c rows (s .net) (rowCount c rows) p (s .late) (s .p-tied) in
+    ((omega arith, omega arith), (omega arith, omega arith)))
     (or-cases _ _ h)

@@ -1,10 +1,9 @@
 -- The table of ties, filled net by net: it comes to the ties, its bounds stay small, and nothing below the stem is tied. Assumes nothing.
-use mathlib.Core.Path.{_≡_, refl, sym, ap, _∙_, subst}
-use mathlib.Core.Bool.{Bool, true, false, not, _&&_, _||_, cond}
-use mathlib.Core.List.{List, [], _∷_, _++_}
-use mathlib.Core.Logic.{_⊎_, inl, inr, ⊎-elim}
+use mathlib.Core.Path.{_≡_, refl, sym, ap, _∙_}
+use mathlib.Core.Bool.{Bool, true, false, _||_, cond}
+use mathlib.Core.List.{List, [], _∷_}
+use mathlib.Core.Logic.{_⊎_, inl, inr}
 use Prim.Native.Nat.{ℕ, zero, suc, _+_, _-_, _*_, _≤_, _<_, min, max}
-use native.Mathlib.Nat.{add-zero}
 use native.Mathlib.Omega.{arith}
 use lib.Dec.{T, eqb, ltb}
 use lib.ListN.{length, getD, set, drop, replicate}
@@ -20,12 +19,12 @@ use Rattle.runs.specs.declared.row.Row.{Row}
 use Rattle.runs.specs.Run.{gateAt}
 use Rattle.runs.specs.Row.{rowAt}
 use Rattle.runs.specs.Gathered.{delayed, joined}
-use Rattle.runs.proofs.Circuits.{GoodGate, good-gate, gate-good}
+use Rattle.runs.proofs.Circuits.{good-gate, gate-good}
 use Rattle.ordering.specs.Rows.{someBelow, rowCount, below}
 use Rattle.ordering.specs.Stem.{allTied, livePin, liveTies, tieOf, tiesBelow, tie, tiedApart}
 use Rattle.ordering.specs.TieTable.{AtMost, SmallBelow}
 use Rattle.ordering.proofs.Below.{some-none, some-same}
-use Rattle.ordering.proofs.Ties.{length-ties, last-tie, longer-pass, tied-below}
+use Rattle.ordering.proofs.Ties.{length-ties, last-tie, longer-pass}
 
 -- two tables of ties are alike at the nets of these pins
 abbrev Alike : List (Option Bounds) → List (Option Bounds) → List ℕ → Type 0
@@ -45,10 +44,13 @@ tie-alike c valid rows s ts us n l h = go (ltb n (c .inputs) || isConstant (rowA
   where
     k : ℕ
     k = n - c .inputs
+
     pins : List (Option Bounds) → Option Bounds
     pins x = delayed (gateAt c k) (allTied None (liveTies rows x (rowAt rows n) 0 (gateAt c k .pins)))
+
     itself : Option Bounds
     itself = Some (record { lo = 0; hi = 0 })
+
     go : (b : Bool) → (ltb n (c .inputs) || isConstant (rowAt rows n .class)) ≡ b →
         cond (eqb n s) itself (cond b None (pins ts)) ≡ cond (eqb n s) itself (cond b None (pins us))
     go true e = refl
@@ -76,7 +78,7 @@ pub tie-is : (c : PlainCircuit) → T (validCircuit c) → (rows : List Row) (s 
 tie-is c valid rows s n l =
     pass-to c rows s (suc n) (rowCount c rows) n (omega arith) (omega arith) ∙ last-tie c rows s n
     ∙ tie-alike c valid rows s (tiesBelow c rows s n) (tiesBelow c rows s (rowCount c rows)) n (omega arith)
-      (λ k m. sym (pass-to c rows s n (rowCount c rows) k m (omega arith)))
+    (λ k m. sym (pass-to c rows s n (rowCount c rows) k m (omega arith)))
 
 -- from a table that has the ties of the nets below n, the tie of n
 pub tie-from : (c : PlainCircuit) → T (validCircuit c) → (rows : List Row) (s : ℕ) (ts : List (Option Bounds)) (n : ℕ) → n < rowCount c rows →
@@ -91,8 +93,10 @@ untied-none rows ts row k (n ∷ ns) h = go (livePin rows row k n) (untied-none 
   where
     rest : List (Option Bounds)
     rest = liveTies rows ts row (k + 1) ns
+
     here : getD ts n None ≡ None
     here = h 0 (omega arith)
+
     go : (b : Bool) → allTied None rest ≡ None → allTied None (cond b (getD ts n None ∷ rest) rest) ≡ None
     go true e = ap (λ (o : Option Bounds). allTied None (o ∷ rest)) here
     go false e = e
@@ -105,8 +109,10 @@ low-untied c valid rows s ts n l low h =
   where
     k : ℕ
     k = n - c .inputs
+
     pins : Option Bounds
     pins = allTied None (liveTies rows ts (rowAt rows n) 0 (gateAt c k .pins))
+
     go : (b : Bool) → (ltb n (c .inputs) || isConstant (rowAt rows n .class)) ≡ b → cond b None (delayed (gateAt c k) pins) ≡ None
     go true e = refl
     go false e =
@@ -119,10 +125,11 @@ pass-low c valid rows s zero l k low = refl
 pass-low c valid rows s (suc n) l k low =
     let before = pass-low c valid rows s n (omega arith) in
     elim (cases-order k n) [
-      inl e ↦ ap (λ (i : ℕ). getD (tiesBelow c rows s (suc n)) i None) e ∙ last-tie c rows s n
-        ∙ low-untied c valid rows s (tiesBelow c rows s n) n (omega arith) (omega arith) (λ j m. before j (omega arith))
-    | inr (inl m) ↦ longer-pass c rows s n k m ∙ before k low
-    | inr (inr m) ↦ getD-past (tiesBelow c rows s (suc n)) k None (omega (arith, length-ties c rows s (suc n))) ]
+      | inl e ↦ ap (λ (i : ℕ). getD (tiesBelow c rows s (suc n)) i None) e ∙ last-tie c rows s n
+          ∙ low-untied c valid rows s (tiesBelow c rows s n) n (omega arith) (omega arith) (λ j m. before j (omega arith))
+      | inr (inl m) ↦ longer-pass c rows s n k m ∙ before k low
+      | inr (inr m) ↦ getD-past (tiesBelow c rows s (suc n)) k None (omega (arith, length-ties c rows s (suc n)))
+    ]
 
 -- a net below the stem is not tied
 pub tie-low : (c : PlainCircuit) → T (validCircuit c) → (rows : List Row) (s k : ℕ) → k < s → tie c rows s k ≡ None
@@ -190,6 +197,7 @@ tied-small limit rows ts row k (n ∷ ns) all h each =
   where
     rest : List (Option Bounds)
     rest = liveTies rows ts row (k + 1) ns
+
     go : (b : Bool) (o : Option Bounds) → getD ts n None ≡ o → ((more : Option Bounds) → AtMost limit more → AtMost limit (allTied more rest)) →
         AtMost limit (allTied all (cond b (o ∷ rest) rest))
     go true None e next = λ b f. let z : _≡_ {A = ℕ} 0 1 = cc in absurd (omega arith)
@@ -203,7 +211,7 @@ pins-small rows ts row [] n small low b e = let z : _≡_ {A = ℕ} 0 1 = cc in 
 pins-small rows ts row (m ∷ ms) n small low b e =
     let first = low 0 (omega arith) in
     let r = tied-small (65535 * (n - 1)) rows ts row 0 (m ∷ ms) None (λ x f. let z : _≡_ {A = ℕ} 0 1 = cc in absurd (omega arith))
-          (λ place l x f. let s = small _ (low place l) x f in let p = low place l in (omega arith, omega arith)) b e in
+    (λ place l x f. let s = small _ (low place l) x f in let p = low place l in (omega arith, omega arith)) b e in
     (omega (arith, r .0), omega (arith, r .1))
 
 -- delayed a valid gate: the bounds, and that they stay small
@@ -241,9 +249,11 @@ getD-none (suc n) (suc k) = getD-none n k
 pub table-starts : (c : PlainCircuit) → T (validCircuit c) → (rows : List Row) (s : ℕ) (ts : List (Option Bounds)) → ts ≡ replicate 256 None →
     (length ts ≡ 256) × ((k : ℕ) → k < s → getD ts k None ≡ tie c rows s k) × SmallBelow ts s
 table-starts c valid rows s ts e =
-    let empty = λ (k : ℕ). ap (λ (us : List (Option Bounds)). getD us k None) e ∙ getD-none 256 k in
-    (ap length e ∙ length-replicate {A = Option Bounds} 256 None, λ k l. empty k ∙ sym (tie-low c valid rows s k l),
-    λ k l b f. let h = empty k in let z : _≡_ {A = ℕ} 0 1 = cc in absurd (omega arith))
+    let empty = λ (k : ℕ). ap (λ (us : List (Option Bounds)). getD us k None) e ∙ getD-none 256 k in (
+      ap length e ∙ length-replicate {A = Option Bounds} 256 None,
+      λ k l. empty k ∙ sym (tie-low c valid rows s k l),
+      λ k l b f. let h = empty k in let z : _≡_ {A = ℕ} 0 1 = cc in absurd (omega arith),
+    )
 
 -- one more net
 pub table-grows : (c : PlainCircuit) → T (validCircuit c) → (rows : List Row) (s : ℕ) (ts : List (Option Bounds)) (n : ℕ) → n < rowCount c rows → n < 256 →
@@ -252,14 +262,17 @@ pub table-grows : (c : PlainCircuit) → T (validCircuit c) → (rows : List Row
     (length (set ts n o) ≡ 256) × ((k : ℕ) → k < n + 1 → getD (set ts n o) k None ≡ tie c rows s k) × SmallBelow (set ts n o) (n + 1)
 table-grows c valid rows s ts n l m inv o told small =
     let len = inv .0 in
-    let here : getD (set ts n o) n None ≡ o = getD-set-same ts n o None (omega arith) in
-    (length-set ts n o ∙ len,
-    λ k h. elim (cases-eq k n) [
-      inl e ↦ ap (λ (i : ℕ). getD (set ts n o) i None) e ∙ here ∙ told ∙ tie-from c valid rows s ts n l (inv .1) ∙ ap (tie c rows s) (sym e)
-    | inr ne ↦ getD-set-other ts n k o None ne ∙ inv .1 k (omega arith) ],
-    λ k h b f. elim (cases-eq k n) [
-      inl e ↦ let r = small b (sym here ∙ ap (λ (i : ℕ). getD (set ts n o) i None) (sym e) ∙ f) in (omega (arith, r .0), omega (arith, r .1))
-    | inr ne ↦ inv .2 k (omega arith) b (sym (getD-set-other ts n k o None ne) ∙ f) ])
+    let here : getD (set ts n o) n None ≡ o = getD-set-same ts n o None (omega arith) in (
+      length-set ts n o ∙ len,
+      λ k h. elim (cases-eq k n) [
+        | inl e ↦ ap (λ (i : ℕ). getD (set ts n o) i None) e ∙ here ∙ told ∙ tie-from c valid rows s ts n l (inv .1) ∙ ap (tie c rows s) (sym e)
+        | inr ne ↦ getD-set-other ts n k o None ne ∙ inv .1 k (omega arith)
+      ],
+      λ k h b f. elim (cases-eq k n) [
+        | inl e ↦ let r = small b (sym here ∙ ap (λ (i : ℕ). getD (set ts n o) i None) (sym e) ∙ f) in (omega (arith, r .0), omega (arith, r .1))
+        | inr ne ↦ inv .2 k (omega arith) b (sym (getD-set-other ts n k o None ne) ∙ f)
+      ],
+    )
 
 -- nothing is tied apart by a stem above one of the two nets, or where one of them has no row
 below-none : (x : Option Bounds) → below x None ≡ false
@@ -275,7 +288,7 @@ pub no-stem : (c : PlainCircuit) (rows : List Row) (q p : ℕ) → (rowCount c r
 no-stem c rows q p h =
     sym (some-none _)
     ∙ some-same (tiedApart c rows q p) 0 (rowCount c rows) (omega arith)
-      (λ s a b. not-apart c rows q p s (elim h [ inl l ↦ inl (tie-past c rows s q l) | inr l ↦ inr (tie-past c rows s p l) ]))
+    (λ s a b. not-apart c rows q p s (elim h [ inl l ↦ inl (tie-past c rows s q l) | inr l ↦ inr (tie-past c rows s p l) ]))
 
 pub no-higher-stem : (c : PlainCircuit) → T (validCircuit c) → (rows : List Row) (q p m : ℕ) → m ≤ rowCount c rows → (q < m) ⊎ (p < m) →
     someBelow (tiedApart c rows q p) m ≡ someBelow (tiedApart c rows q p) (rowCount c rows)

@@ -1,18 +1,17 @@
 -- Ties to a net: what they are at each net, and what the bounds of several tied nets say of each. Assumes nothing.
-use mathlib.Core.Path.{_≡_, refl, sym, ap, _∙_, subst}
-use mathlib.Core.Bool.{Bool, true, false, not, _&&_, _||_, cond}
-use mathlib.Core.List.{List, [], _∷_, _++_}
-use mathlib.Core.Logic.{_⊎_, inl, inr, ⊎-elim, _≢_}
-use Prim.Native.Nat.{ℕ, zero, suc, _+_, _-_, _≤_, _<_, min, max}
+use mathlib.Core.Path.{_≡_, refl, ap, subst}
+use mathlib.Core.Bool.{Bool, true, false, cond}
+use mathlib.Core.List.{List, [], _∷_}
+use mathlib.Core.Logic.{⊎-elim}
+use Prim.Native.Nat.{ℕ, zero, suc, _+_, _≤_, _<_, min, max}
 use native.Mathlib.Nat.{add-zero}
 use native.Mathlib.Omega.{arith}
-use lib.Dec.{eqb, ltb}
 use lib.ListN.{length, getD}
 use Rattle.std.proofs.shelf.Lists.{length-push, getD-push, getD-append-left, getD-past}
 use Rattle.std.proofs.shelf.Tests.{cases-lt, cond-true}
 use Rattle.std.specs.declared.option.Option.{Option}
 use Rattle.std.specs.declared.option.Option.the-variants.{Some, None}
-use Rattle.netlist.specs.Circuit.{PlainGate, PlainCircuit}
+use Rattle.netlist.specs.Circuit.{PlainCircuit}
 use Rattle.runs.specs.declared.row.Bounds.{Bounds}
 use Rattle.runs.specs.declared.row.Row.{Row}
 use Rattle.runs.specs.Gathered.{joined}
@@ -33,7 +32,7 @@ pub tied-below : (c : PlainCircuit) (rows : List Row) (s n k : ℕ) (b : Bounds)
 tied-below c rows s n k b h =
     ⊎-elim (λ l. l)
     (λ l. let past : getD (tiesBelow c rows s n) k None ≡ None = getD-past (tiesBelow c rows s n) k None (omega (arith, length-ties c rows s n)) in
-      let z : _≡_ {A = ℕ} 0 1 = cc in absurd (omega arith))
+    let z : _≡_ {A = ℕ} 0 1 = cc in absurd (omega arith))
     (cases-lt k n)
 
 -- a pass that goes further changes no tie
@@ -64,6 +63,7 @@ tied-live rows ties row k zero (n ∷ ns) all j h l live =
   where
     here : livePin rows row k n ≡ true
     here = subst (λ (i : ℕ). livePin rows row i n ≡ true) (add-zero k) live
+
     go : (o : Option Bounds) → getD ties n None ≡ o → allTied all (o ∷ liveTies rows ties row (k + 1) ns) ≡ Some j →
         (b : Bounds) × (getD ties n None ≡ Some b) × (j .lo ≤ b .lo) × (b .hi ≤ j .hi)
     go None e f = let z : _≡_ {A = ℕ} 0 1 = cc in absurd (omega arith)
@@ -75,8 +75,10 @@ tied-live rows ties row k (suc place) (n ∷ ns) all j h l live =
   where
     rest : List (Option Bounds)
     rest = liveTies rows ties row (k + 1) ns
+
     Found : Type 0
     Found = (b : Bounds) × (getD ties (getD ns place 0) None ≡ Some b) × (j .lo ≤ b .lo) × (b .hi ≤ j .hi)
+
     go : (here : Bool) (o : Option Bounds) → allTied all (cond here (o ∷ rest) rest) ≡ Some j →
         ((more : Option Bounds) → allTied more rest ≡ Some j → Found) → Found
     go true None f next = let z : _≡_ {A = ℕ} 0 1 = cc in absurd (omega arith)

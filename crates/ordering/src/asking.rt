@@ -4,10 +4,10 @@ ghost use mathlib.Core.Bool.{true};
 ghost use Rattle.netlist.specs.View.{plain};
 ghost use Rattle.ordering.specs.Source.{OrderedInRuns};
 ghost use Rattle.runs.specs.Row.{HasRow};
+use crate::source::OrderSource;
 use netlist::Circuit;
 use netlist::Net;
 use runs::Row;
-use crate::source::OrderSource;
 
 // The source's answer.
 fn answer<S: OrderSource>(source: &S, circuit: &Circuit, rows: &[Row], q: Net, p: Net) -> bool

@@ -3,19 +3,28 @@ ghost use mathlib.Core.Path.{_≡_};
 ghost use Rattle.netlist.specs.View.{plain};
 ghost use Rattle.ordering.specs.Chain.{through, chained};
 ghost use Rattle.ordering.specs.Rows.{someBelow, rowCount};
+use crate::rows::is_clean;
+use crate::rows::row_count;
+use crate::source::OrderSource;
 use netlist::Circuit;
 use netlist::Net;
 use runs::Row;
 use separations::SeparationFault;
-use crate::rows::is_clean;
-use crate::rows::row_count;
-use crate::source::OrderSource;
 
 // Whether net m is clean, and the source says q before m and m before p.
-fn is_through<S: OrderSource>(source: &S, circuit: &Circuit, rows: &[Row], q: Net, p: Net, m: Net) -> bool
+fn is_through<S: OrderSource>(
+    source: &S,
+    circuit: &Circuit,
+    rows: &[Row],
+    q: Net,
+    p: Net,
+    m: Net,
+) -> bool
     ensures { λ r. ⌜ r ≡ through (S·OrderSource .says (S·OrderSource .held (now (source .entry))) (plain (now (circuit .entry))) (now (rows .entry))) (plain (now (circuit .entry))) (now (rows .entry)) q p m ⌝ }
 {
-    is_clean(circuit, rows, m) && source.before(circuit, rows, q, m) && source.before(circuit, rows, m, p)
+    is_clean(circuit, rows, m)
+        && source.before(circuit, rows, q, m)
+        && source.before(circuit, rows, m, p)
 }
 
 // Whether some net that has a row is clean and lies between q and p.

@@ -6,16 +6,17 @@ ghost use Prim.Native.Nat.{_<_};
 ghost use Rattle.netlist.specs.View.{plain};
 ghost use Rattle.ordering.specs.Rows.{everyBelow, someBelow};
 ghost use Rattle.ordering.specs.SameInput.{noneBut, onlyInput, sameInput};
-use netlist::Circuit;
-use netlist::Net;
-use runs::Row;
-use separations::SeparationFault;
 use crate::refusal::refusal;
 use crate::rows::has_row;
 use crate::rows::is_below;
 use crate::rows::is_clean_input;
 use crate::rows::row_at;
 use crate::source::OrderSource;
+use netlist::Circuit;
+use netlist::Net;
+use runs::Row;
+use runs::row::INPUTS;
+use separations::SeparationFault;
 
 // Whether number j is i, or gives no bounds at either row.
 fn is_none_but(i: usize, earlier: &Row, later: &Row, j: usize) -> bool
@@ -29,7 +30,7 @@ fn is_none_but(i: usize, earlier: &Row, later: &Row, j: usize) -> bool
 fn is_alone(i: usize, earlier: &Row, later: &Row) -> bool
     ensures { λ r. ⌜ r ≡ everyBelow (noneBut i (now (earlier .entry)) (now (later .entry))) 16 ⌝ }
 {
-    for j in 0..16 {
+    for j in 0..INPUTS {
         if !is_none_but(i, earlier, later, j) {
             return false;
         }
@@ -42,14 +43,16 @@ fn is_only_input(circuit: &Circuit, rows: &[Row], earlier: &Row, later: &Row, i:
     requires { ⌜ i < 16 ⌝ }
     ensures { λ r. ⌜ r ≡ onlyInput (plain (now (circuit .entry))) (now (rows .entry)) (now (earlier .entry)) (now (later .entry)) i ⌝ }
 {
-    is_clean_input(circuit, rows, i as Net) && is_below(earlier.bounds[i], later.bounds[i]) && is_alone(i, earlier, later)
+    is_clean_input(circuit, rows, i as Net)
+        && is_below(earlier.bounds[i], later.bounds[i])
+        && is_alone(i, earlier, later)
 }
 
 // Whether some input orders the two rows alone.
 fn has_only_input(circuit: &Circuit, rows: &[Row], earlier: &Row, later: &Row) -> bool
     ensures { λ r. ⌜ r ≡ someBelow (onlyInput (plain (now (circuit .entry))) (now (rows .entry)) (now (earlier .entry)) (now (later .entry))) 16 ⌝ }
 {
-    for i in 0..16 {
+    for i in 0..INPUTS {
         if is_only_input(circuit, rows, earlier, later, i) {
             return true;
         }
@@ -80,6 +83,8 @@ pub impl OrderSource for SameInput as SameInputSource {
     }
 
     fn before(&self, circuit: &Circuit, rows: &[Row], q: Net, p: Net) -> bool {
-        has_row(circuit, rows, q) && has_row(circuit, rows, p) && has_only_input(circuit, rows, row_at(rows, q), row_at(rows, p))
+        has_row(circuit, rows, q)
+            && has_row(circuit, rows, p)
+            && has_only_input(circuit, rows, row_at(rows, q), row_at(rows, p))
     }
 }

@@ -2,12 +2,12 @@
 ghost use mathlib.Core.Bool.{false};
 ghost use mathlib.Core.List.{[]};
 ghost use Rattle.ordering.specs.Silent.{silent};
+use crate::refusal::refusal;
+use crate::source::OrderSource;
 use netlist::Circuit;
 use netlist::Net;
 use runs::Row;
 use separations::SeparationFault;
-use crate::refusal::refusal;
-use crate::source::OrderSource;
 
 #[derive(Clone, Copy)]
 pub struct Silent;

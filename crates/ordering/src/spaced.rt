@@ -8,22 +8,23 @@ ghost use Rattle.ordering.specs.Rows.{everyBelow, someBelow};
 ghost use Rattle.ordering.specs.Spaced.{spacedBy, agreed, agrees, agreesWithAll, boundedBy, spaced};
 ghost use Rattle.separations.specs.Holding.{heldBy};
 ghost use Rattle.separations.specs.Separations.{spacingIn};
-use netlist::Circuit;
-use netlist::Net;
-use runs::Bounds;
-use runs::Row;
-use separations::SeparationFault;
-use separations::Separations;
 use crate::rows::has_row;
 use crate::rows::is_clean_input;
 use crate::rows::row_at;
 use crate::source::OrderSource;
+use netlist::Circuit;
+use netlist::Net;
+use runs::Bounds;
+use runs::Row;
+use runs::row::INPUTS;
+use separations::SeparationFault;
+use separations::Separations;
 
 // Whether some number gives bounds at the row.
 fn is_bounded(row: &Row) -> bool
     ensures { λ r. ⌜ r ≡ someBelow (boundedBy (now (row .entry))) 16 ⌝ }
 {
-    for i in 0..16 {
+    for i in 0..INPUTS {
         if row.bounds[i].is_some() {
             return true;
         }
@@ -40,28 +41,63 @@ fn is_spaced_by(spacing: Option<i32>, x: Bounds, y: Bounds) -> bool
 }
 
 // Whether the bounds that number j gives at one row agree with those that number i gives at another.
-fn is_agreed(held: &Separations, circuit: &Circuit, rows: &[Row], j: Net, i: Net, x: Option<Bounds>, y: Option<Bounds>) -> bool
+fn is_agreed(
+    held: &Separations,
+    circuit: &Circuit,
+    rows: &[Row],
+    j: Net,
+    i: Net,
+    x: Option<Bounds>,
+    y: Option<Bounds>,
+) -> bool
     ensures { λ r. ⌜ r ≡ agreed (heldBy (now (held .entry))) (plain (now (circuit .entry))) (now (rows .entry)) j i x y ⌝ }
 {
     let Some(a) = x else { return true };
     let Some(b) = y else { return true };
-    if j == i { is_clean_input(circuit, rows, i) && a.hi < b.lo } else { is_spaced_by(held.get(j, i), a, b) }
+    if j == i {
+        is_clean_input(circuit, rows, i) && a.hi < b.lo
+    } else {
+        is_spaced_by(held.get(j, i), a, b)
+    }
 }
 
 // Whether number j at the earlier row agrees with number i at the later.
-fn is_agreeing(held: &Separations, circuit: &Circuit, rows: &[Row], earlier: &Row, later: &Row, j: usize, i: usize) -> bool
+fn is_agreeing(
+    held: &Separations,
+    circuit: &Circuit,
+    rows: &[Row],
+    earlier: &Row,
+    later: &Row,
+    j: usize,
+    i: usize,
+) -> bool
     requires { ⌜ j < 16 ⌝ ∗ ⌜ i < 16 ⌝ }
     ensures { λ r. ⌜ r ≡ agrees (heldBy (now (held .entry))) (plain (now (circuit .entry))) (now (rows .entry)) (now (earlier .entry)) (now (later .entry)) j i ⌝ }
 {
-    is_agreed(held, circuit, rows, j as Net, i as Net, earlier.bounds[j], later.bounds[i])
+    is_agreed(
+        held,
+        circuit,
+        rows,
+        j as Net,
+        i as Net,
+        earlier.bounds[j],
+        later.bounds[i],
+    )
 }
 
 // Whether number j at the earlier row agrees with every number at the later.
-fn is_agreeing_with_all(held: &Separations, circuit: &Circuit, rows: &[Row], earlier: &Row, later: &Row, j: usize) -> bool
+fn is_agreeing_with_all(
+    held: &Separations,
+    circuit: &Circuit,
+    rows: &[Row],
+    earlier: &Row,
+    later: &Row,
+    j: usize,
+) -> bool
     requires { ⌜ j < 16 ⌝ }
     ensures { λ r. ⌜ r ≡ agreesWithAll (heldBy (now (held .entry))) (plain (now (circuit .entry))) (now (rows .entry)) (now (earlier .entry)) (now (later .entry)) j ⌝ }
 {
-    for i in 0..16 {
+    for i in 0..INPUTS {
         if !is_agreeing(held, circuit, rows, earlier, later, j, i) {
             return false;
         }
@@ -70,10 +106,16 @@ fn is_agreeing_with_all(held: &Separations, circuit: &Circuit, rows: &[Row], ear
 }
 
 // Whether every number at the earlier row agrees with every number at the later.
-fn are_agreeing(held: &Separations, circuit: &Circuit, rows: &[Row], earlier: &Row, later: &Row) -> bool
+fn are_agreeing(
+    held: &Separations,
+    circuit: &Circuit,
+    rows: &[Row],
+    earlier: &Row,
+    later: &Row,
+) -> bool
     ensures { λ r. ⌜ r ≡ everyBelow (agreesWithAll (heldBy (now (held .entry))) (plain (now (circuit .entry))) (now (rows .entry)) (now (earlier .entry)) (now (later .entry))) 16 ⌝ }
 {
-    for j in 0..16 {
+    for j in 0..INPUTS {
         if !is_agreeing_with_all(held, circuit, rows, earlier, later, j) {
             return false;
         }
@@ -91,7 +133,9 @@ impl Spaced {
     pub fn new() -> Spaced
         ensures { λ r. ⌜ heldBy (r .held) ≡ [] ⌝ }
     {
-        Spaced { held: Separations::new() }
+        Spaced {
+            held: Separations::new(),
+        }
     }
 
     // The spacing that is held for inputs a and b, if any.

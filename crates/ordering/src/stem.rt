@@ -14,17 +14,20 @@ ghost use Rattle.ordering.specs.Stem.{allTied, livePin, liveTies, tieOf, tie, 
 ghost use Rattle.ordering.specs.TieTable.{AtMost, SmallBelow};
 ghost use Rattle.runs.specs.Gathered.{delayed};
 ghost use Rattle.runs.specs.Run.{gateAt};
+use crate::rows::has_row;
+use crate::rows::is_below;
+use crate::rows::is_clean;
+use crate::rows::row_at;
+use crate::source::OrderSource;
 use netlist::Circuit;
 use netlist::Gate;
 use netlist::Net;
 use runs::Bounds;
 use runs::Row;
 use separations::SeparationFault;
-use crate::rows::has_row;
-use crate::rows::is_below;
-use crate::rows::is_clean;
-use crate::rows::row_at;
-use crate::source::OrderSource;
+
+// The most nets that a circuit has.
+const NETS: usize = 256;
 
 // The gate of a net that is no input.
 fn gate_of(circuit: &Circuit, n: Net) -> &Gate
@@ -50,12 +53,15 @@ fn joined_with(all: Option<Bounds>, tie: Option<Bounds>) -> Option<Bounds>
     match (all, tie) {
         (_, None) => None,
         (None, Some(t)) => Some(t),
-        (Some(b), Some(t)) => Some(Bounds { lo: if b.lo < t.lo { b.lo } else { t.lo }, hi: if b.hi < t.hi { t.hi } else { b.hi } }),
+        (Some(b), Some(t)) => Some(Bounds {
+            lo: if b.lo < t.lo { b.lo } else { t.lo },
+            hi: if b.hi < t.hi { t.hi } else { b.hi },
+        }),
     }
 }
 
 // The bounds of all live pins, or none if there is none or one of them is not tied.
-fn join(rows: &[Row], ties: &[Option<Bounds>; 256], row: &Row, pins: &[Net]) -> Option<Bounds>
+fn join(rows: &[Row], ties: &[Option<Bounds>; NETS], row: &Row, pins: &[Net]) -> Option<Bounds>
     requires { ⌜ length (now pins) ≤ 8 ⌝ ∗ ⌜ ((k : ℕ) → k < length (now pins) → getD (now pins) k 0 < length (now rows)) ⌝ }
     ensures { λ r. ⌜ r ≡ allTied None (liveTies (now (rows .entry)) (now (ties .entry)) (now (row .entry)) 0 (now (pins .entry))) ⌝ }
 {
@@ -72,17 +78,34 @@ fn join(rows: &[Row], ties: &[Option<Bounds>; 256], row: &Row, pins: &[Net]) -> 
 }
 
 // How the net of a gate is tied, from the ties of the nets below it.
-fn tie_behind(gate: &Gate, rows: &[Row], ties: &[Option<Bounds>; 256], row: &Row, n: Net) -> Option<Bounds>
+fn tie_behind(
+    gate: &Gate,
+    rows: &[Row],
+    ties: &[Option<Bounds>; NETS],
+    row: &Row,
+    n: Net,
+) -> Option<Bounds>
     requires { ⌜ T (validGate n (plainGate (now gate))) ⌝ ∗ ⌜ n < length (now rows) ⌝ ∗ ⌜ SmallBelow (now ties) n ⌝ }
     ensures told { λ r. ⌜ r ≡ delayed (plainGate (now (gate .entry))) (allTied None (liveTies (now (rows .entry)) (now (ties .entry)) (now (row .entry)) 0 (vec-items (now (gate .entry) .pins)))) ⌝ }
     ensures small { λ r. ⌜ AtMost (65535 * n) r ⌝ }
 {
-    let Some(all) = join(rows, ties, row, gate.pins.as_slice()) else { return None };
-    Some(Bounds { lo: all.lo + u32::from(gate.least), hi: all.hi + u32::from(gate.greatest) })
+    let Some(all) = join(rows, ties, row, gate.pins.as_slice()) else {
+        return None
+    };
+    Some(Bounds {
+        lo: all.lo + u32::from(gate.least),
+        hi: all.hi + u32::from(gate.greatest),
+    })
 }
 
 // How net n is tied to net s, from the ties of the nets below n.
-fn tie_of(circuit: &Circuit, rows: &[Row], s: Net, ties: &[Option<Bounds>; 256], n: Net) -> Option<Bounds>
+fn tie_of(
+    circuit: &Circuit,
+    rows: &[Row],
+    s: Net,
+    ties: &[Option<Bounds>; NETS],
+    n: Net,
+) -> Option<Bounds>
     requires { ⌜ n < rowCount (plain (now circuit)) (now rows) ⌝ ∗ ⌜ SmallBelow (now ties) n ⌝ }
     ensures told { λ r. ⌜ r ≡ tieOf (plain (now (circuit .entry))) (now (rows .entry)) s (now (ties .entry)) n ⌝ }
     ensures small { λ r. ⌜ AtMost (65535 * n) r ⌝ }
@@ -98,14 +121,14 @@ fn tie_of(circuit: &Circuit, rows: &[Row], s: Net, ties: &[Option<Bounds>; 256],
 }
 
 // A table in which no net is tied.
-fn untied() -> [Option<Bounds>; 256]
+fn untied() -> [Option<Bounds>; NETS]
     ensures { λ r. ⌜ r ≡ replicate 256 None ⌝ }
 {
-    [None; 256]
+    [None; NETS]
 }
 
 // How the nets up to `top` are tied to net s.
-fn ties_to(circuit: &Circuit, rows: &[Row], s: Net, top: Net) -> [Option<Bounds>; 256]
+fn ties_to(circuit: &Circuit, rows: &[Row], s: Net, top: Net) -> [Option<Bounds>; NETS]
     requires { ⌜ top < rowCount (plain (now circuit)) (now rows) ⌝ }
     ensures { λ r. ⌜ ((k : ℕ) → k ≤ top → getD r k None ≡ tie (plain (now (circuit .entry))) (now (rows .entry)) s k) ⌝ }
 {
@@ -151,7 +174,11 @@ fn has_stem(circuit: &Circuit, rows: &[Row], q: Net, p: Net) -> bool
     if !has_row(circuit, rows, p) {
         return false;
     }
-    if q < p { has_stem_up_to(circuit, rows, q, p, q) } else { has_stem_up_to(circuit, rows, q, p, p) }
+    if q < p {
+        has_stem_up_to(circuit, rows, q, p, q)
+    } else {
+        has_stem_up_to(circuit, rows, q, p, p)
+    }
 }
 
 #[derive(Drop)]

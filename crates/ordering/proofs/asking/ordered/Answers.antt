@@ -10,4 +10,5 @@ returns g c =
     record {
       answer = c .answer .ensures;
       holds = λ yes. g .S·OrderSource·met .first seps circuit (c .args .rows .now) (c .args .q) (c .args .p) (c .args .circuit .now .valid) (sym (c .answer .ensures) ∙ yes);
-      rowed = λ yes. g .S·OrderSource·met .third seps circuit (c .args .rows .now) (c .args .q) (c .args .p) (sym (c .answer .ensures) ∙ yes) }
+      rowed = λ yes. g .S·OrderSource·met .third seps circuit (c .args .rows .now) (c .args .q) (c .args .p) (sym (c .answer .ensures) ∙ yes);
+    }

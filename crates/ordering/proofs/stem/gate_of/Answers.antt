@@ -26,9 +26,9 @@ returns c =
     let g = c .index-gates-n .result in
     let d = gateAt (record { inputs = 0; gates = [] }) 0 in
     let within : k < length gates =
-      let same = length-map gates plainGate in let e = ap length (c .gates .ensures) in omega (arith, c .inputs .ensures, c .pre) in
+    let same = length-map gates plainGate in let e = ap length (c .gates .ensures) in omega (arith, c .inputs .ensures, c .pre) in
     let same : plainGate g ≡ gateAt (plain (c .args .circuit .now)) (c .args .n - c .args .circuit .now .inputs) =
-      ap plainGate (c .index-gates-n .is) ∙ sym (getD-map plainGate gates k g d within) ∙ ap (λ (xs : List PlainGate). getD xs k d) (c .gates .ensures)
-      ∙ ap (λ (i : ℕ). gateAt (plain (c .args .circuit .now)) (c .args .n - i)) (c .inputs .ensures) in
+    ap plainGate (c .index-gates-n .is) ∙ sym (getD-map plainGate gates k g d within) ∙ ap (λ (xs : List PlainGate). getD xs k d) (c .gates .ensures)
+    ∙ ap (λ (i : ℕ). gateAt (plain (c .args .circuit .now)) (c .args .n - i)) (c .inputs .ensures) in
     let good = gate-valid (plain (c .args .circuit .now)) (c .args .circuit .now .valid) (c .args .n) (c .pre .0) (c .pre .1) in
     record { same = same; valid = subst (λ (x : PlainGate). T (validGate (c .args .n) x)) (sym same) good }

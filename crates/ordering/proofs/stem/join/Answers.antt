@@ -15,13 +15,14 @@ returns-then-not-is-some c =
 pub loop-k-again : need.loop-k-again
 loop-k-again c =
     elim (c .if-is-live .came) [
-      then-is-live·else-not-is-some w ↦
-        join-takes (c .args .rows .now) (c .args .ties .now) (c .args .row .now) (c .args .pins .now) (c .loop-k .k) (c .loop-k .all) _ _
-        (c .loop-k-test .taken) (sym (c .is-live .ensures) ∙ w .if-is-live .taken) (w .all-is ∙ w .joined-with-all .ensures)
-        (ap isSome (w .all-is) ∙ sym (w .is-some .ensures) ∙ w .if-not-is-some .left) (c .loop-k .inv)
-    | else-is-live w ↦
-        join-skips (c .args .rows .now) (c .args .ties .now) (c .args .row .now) (c .args .pins .now) (c .loop-k .k) (c .loop-k .all) _ _
-        (c .loop-k-test .taken) (sym (c .is-live .ensures) ∙ w .if-is-live .left) (w .all-is) (c .loop-k .inv) ]
+      | then-is-live·else-not-is-some w ↦
+          join-takes (c .args .rows .now) (c .args .ties .now) (c .args .row .now) (c .args .pins .now) (c .loop-k .k) (c .loop-k .all) _ _
+          (c .loop-k-test .taken) (sym (c .is-live .ensures) ∙ w .if-is-live .taken) (w .all-is ∙ w .joined-with-all .ensures)
+          (ap isSome (w .all-is) ∙ sym (w .is-some .ensures) ∙ w .if-not-is-some .left) (c .loop-k .inv)
+      | else-is-live w ↦
+          join-skips (c .args .rows .now) (c .args .ties .now) (c .args .row .now) (c .args .pins .now) (c .loop-k .k) (c .loop-k .all) _ _
+          (c .loop-k-test .taken) (sym (c .is-live .ensures) ∙ w .if-is-live .left) (w .all-is) (c .loop-k .inv)
+    ]
 
 pub returns : need.returns
 returns c = search (needs, join-ends)
