@@ -1,6 +1,12 @@
 // A row: the class of a net, its bounds from each input, and its held pins.
 use waveform::Class;
 
+// the most inputs that a circuit has
+pub const INPUTS: usize = 16;
+
+// the most pins that a gate has
+pub const PINS: usize = 8;
+
 // a flip comes lo to hi ticks after a flip of the input that it comes from
 #[derive(Clone, Copy)]
 pub struct Bounds {
@@ -8,12 +14,11 @@ pub struct Bounds {
     pub hi: u32,
 }
 
-// a circuit has at most 16 inputs, and a gate at most 8 pins
 #[derive(Clone, Copy)]
 pub struct Row {
     pub class: Class,
     // the bounds from each input, or none
-    pub bounds: [Option<Bounds>; 16],
+    pub bounds: [Option<Bounds>; INPUTS],
     // the value at which each pin is held, or none
-    pub held: [Option<bool>; 8],
+    pub held: [Option<bool>; PINS],
 }
