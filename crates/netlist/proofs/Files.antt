@@ -291,26 +291,30 @@ module _ (bytes : List ℕ) (all : AllBytes bytes) (inputs count : ℕ) (kept : 
       let fewer : length gs < count = omega (arith, left) in
       let next = gatesOutcome inputs n (own + 1) (at + (4 + lengthOf bs)) (gs ++ g ∷ []) (drop (4 + lengthOf bs) bs) in
       let here = bytes-behind at bytes all in
-      elim (decided (firstBroken (gate own) bs)) [ inl e ↦
-          let more = taken-more bytes 6 inputs gs at own g taken refl e (here 0) (here 2) (payload-describes (payloadOf bs) (bytes-front (lengthOf bs) (drop 4 bs) (bytes-behind 4 bs here)) (code-known own bs e)) in
-          let count-more : length (gs ++ g ∷ []) + n ≡ count = omega (arith, length-append gs (g ∷ []), left) in
-          let own-more : inputs + length (gs ++ g ∷ []) ≡ own + 1 = omega (arith, length-append gs (g ∷ [])) in
-          let far : after ≡ at + (4 + lengthOf bs) = add-assoc at 4 (lengthOf bs) in
-          let behind : drop after bytes ≡ drop (4 + lengthOf bs) bs = ap (λ k. drop k bytes) far ∙ sym (drop-drop (4 + lengthOf bs) at bytes) in
-          subst (λ o. Has bytes (unlessBroken o at next)) (sym e)
-          (subst (Has bytes) (λ i. gatesOutcome inputs n (own-more i) (far i) (gs ++ g ∷ []) (behind i)) (has-behind n (gs ++ g ∷ []) after more count-more))
+      elim (decided (firstBroken (gate own) bs)) [
+        | inl e ↦
+            let more = taken-more bytes 6 inputs gs at own g taken refl e (here 0) (here 2) (payload-describes (payloadOf bs) (bytes-front (lengthOf bs) (drop 4 bs) (bytes-behind 4 bs here)) (code-known own bs e)) in
+            let count-more : length (gs ++ g ∷ []) + n ≡ count = omega (arith, length-append gs (g ∷ []), left) in
+            let own-more : inputs + length (gs ++ g ∷ []) ≡ own + 1 = omega (arith, length-append gs (g ∷ [])) in
+            let far : after ≡ at + (4 + lengthOf bs) = add-assoc at 4 (lengthOf bs) in
+            let behind : drop after bytes ≡ drop (4 + lengthOf bs) bs = ap (λ k. drop k bytes) far ∙ sym (drop-drop (4 + lengthOf bs) at bytes) in
+            subst (λ o. Has bytes (unlessBroken o at next)) (sym e)
+            (subst (Has bytes) (λ i. gatesOutcome inputs n (own-more i) (far i) (gs ++ g ∷ []) (behind i)) (has-behind n (gs ++ g ∷ []) after more count-more))
         | inr (r, e) ↦
-          subst (λ o. Has bytes (unlessBroken o at next)) (sym e)
-          (read-stopped bytes inputs count r at kept (all 0) (all 2) is-inputs is-count (record { gates = gs; after = at; fewer = fewer; taken = taken; broken = e; there = refl }))
+            subst (λ o. Has bytes (unlessBroken o at next)) (sym e)
+            (read-stopped bytes inputs count r at kept (all 0) (all 2) is-inputs is-count (record { gates = gs; after = at; fewer = fewer; taken = taken; broken = e; there = refl }))
       ]
 
 -- every list of bytes has an outcome, and just one
 pub one-outcome : OneOutcome
 one-outcome bytes all =
-    elim (decided (firstBroken head bytes)) [ inl e ↦
-        (outcome bytes, only bytes (outcome bytes) (subst (λ o. Has bytes (unlessBroken o 0 (gatesOutcome (getD (payloadOf bytes) 0 0) (getD (payloadOf bytes) 1 0) (getD (payloadOf bytes) 0 0) 6 [] (drop 6 bytes)))) (sym e)
-          (subst (λ k. Has bytes (gatesOutcome (getD (payloadOf bytes) 0 0) (getD (payloadOf bytes) 1 0) k 6 [] (drop 6 bytes))) (add-zero (getD (payloadOf bytes) 0 0))
-            (has-behind bytes all (getD (payloadOf bytes) 0 0) (getD (payloadOf bytes) 1 0) e refl refl (getD (payloadOf bytes) 1 0) [] 6 (none-taken bytes 6 (getD (payloadOf bytes) 0 0)) (zero-add _)))))
+    elim (decided (firstBroken head bytes)) [
+      | inl e ↦ (
+        outcome bytes,
+        only bytes (outcome bytes) (subst (λ o. Has bytes (unlessBroken o 0 (gatesOutcome (getD (payloadOf bytes) 0 0) (getD (payloadOf bytes) 1 0) (getD (payloadOf bytes) 0 0) 6 [] (drop 6 bytes)))) (sym e)
+            (subst (λ k. Has bytes (gatesOutcome (getD (payloadOf bytes) 0 0) (getD (payloadOf bytes) 1 0) k 6 [] (drop 6 bytes))) (add-zero (getD (payloadOf bytes) 0 0))
+            (has-behind bytes all (getD (payloadOf bytes) 0 0) (getD (payloadOf bytes) 1 0) e refl refl (getD (payloadOf bytes) 1 0) [] 6 (none-taken bytes 6 (getD (payloadOf bytes) 0 0)) (zero-add _)))),
+      )
       | inr (r, e) ↦
-        (refused (refusal r 0), only bytes (refused (refusal r 0)) (record { due = head; rule = r; place = 0; reached = refl; broken = e; told = refl }))
+          (refused (refusal r 0), only bytes (refused (refusal r 0)) (record { due = head; rule = r; place = 0; reached = refl; broken = e; told = refl }))
     ]

@@ -67,10 +67,3 @@ apart-by-input c rows run ok x y t u f g e clean l =
     let same = clean-input-once c rows run ok (g .input) clean (f .cause) (g .cause)
     (subst (λ (i : ℕ). FlipsAt (inputWave c run i) (f .cause)) e (f .flips)) (g .flips) in
     omega (arith, f .until, g .after)
-
--- the gate of a net is valid there
-pub gate-valid : (c : PlainCircuit) → T (validCircuit c) → (n : ℕ) → c .inputs ≤ n → n < netCount c → T (validGate n (gateAt c (n - c .inputs)))
-gate-valid c valid n l m =
-    let e : c .inputs + (n - c .inputs) ≡ n = omega arith in
-    subst (λ (own : ℕ). T (validGate own (gateAt c (n - c .inputs)))) e
-    (valid-at (c .inputs) (c .gates) (both-parts _ _ valid .1) (n - c .inputs) _ (omega arith))

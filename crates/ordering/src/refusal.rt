@@ -7,7 +7,7 @@ use runs::row::INPUTS;
 use separations::SeparationFault;
 
 // The first reason that applies to the separation of inputs a and b.
-pub fn refusal(a: Net, b: Net, _s: i32) -> SeparationFault
+pub(crate) fn refusal(a: Net, b: Net, _s: i32) -> SeparationFault
     ensures { λ r. ⌜ Refused false [] a b «_s» r ⌝ }
 {
     if a as usize >= INPUTS {

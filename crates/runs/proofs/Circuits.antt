@@ -1,5 +1,5 @@
 -- Lemmas on plain circuits: gates by place, and what validity says of each. Assumes nothing.
-use mathlib.Core.Path.{_≡_, sym, subst}
+use mathlib.Core.Path.{_≡_, sym, ap, subst, _∙_}
 use mathlib.Core.List.{List, [], _∷_}
 use mathlib.Core.Logic.{_⊎_, inl, inr}
 use Prim.Native.Nat.{ℕ, zero, suc, _+_, _-_, _≤_, _<_}
@@ -7,13 +7,15 @@ use native.Mathlib.Nat.{add-zero}
 use native.Mathlib.Omega.{arith}
 use lib.Dec.{T, leb, ltb, leb→le, ltb→lt}
 use lib.ListN.{length, getD}
-use Rattle.std.proofs.shelf.Lists.{getD-default}
+use Rattle.std.proofs.shelf.Lists.{getD-default, getD-map, length-map}
 use Rattle.std.proofs.shelf.Tests.{cases-lt}
 use Rattle.signals.proofs.Waveforms.{both-parts}
 use Rattle.waveform.specs.declared.function.Function.{Function}
 use Rattle.waveform.specs.declared.function.Function.the-variants.{Buf, Not, And, Nand, Or, Nor, Xor, Xnor}
 use Rattle.waveform.specs.Function.{described, takesPins}
 use Rattle.netlist.specs.Circuit.{PlainGate, PlainCircuit, allBelow, validGate, validGates, validCircuit, netCount}
+use Rattle.netlist.specs.declared.gate.Gate.{Gate}
+use Rattle.netlist.specs.Plain.{plainGate, plainGates}
 use Rattle.runs.specs.Run.{gateAt}
 
 -- each number of such a list is below the limit
@@ -93,3 +95,23 @@ gate-place c n h l = (omega arith, omega arith)
 -- a net is an input or the net of a gate
 pub net-cases : (c : PlainCircuit) (n : ℕ) → n < netCount c → (n < c .inputs) ⊎ ((k : ℕ) × (k < length (c .gates)) × (n ≡ c .inputs + k))
 net-cases c n l = elim (cases-lt n (c .inputs)) [ inl p ↦ inl p | inr p ↦ inr (n - c .inputs, omega arith, omega arith) ]
+
+-- the gate of a net is valid there
+pub gate-valid : (c : PlainCircuit) → T (validCircuit c) → (n : ℕ) → c .inputs ≤ n → n < netCount c → T (validGate n (gateAt c (n - c .inputs)))
+gate-valid c valid n l m =
+    let e : c .inputs + (n - c .inputs) ≡ n = omega arith in
+    subst (λ (own : ℕ). T (validGate own (gateAt c (n - c .inputs)))) e
+    (valid-at (c .inputs) (c .gates) (both-parts _ _ valid .1) (n - c .inputs) _ (omega arith))
+
+-- a gate of the program, read by place from the slice of its gates, is that of the plain circuit
+module _ (c : PlainCircuit) (gates : List Gate) (i n : ℕ) (same : plainGates gates ≡ c .gates) (is : i ≡ c .inputs) (low : c .inputs ≤ n) (high : n < netCount c) where
+  pub gate-within : n - i < length gates
+  gate-within = omega (arith, length-map gates plainGate, ap length same)
+
+  pub gate-same : (g : Gate) → g ≡ getD gates (n - i) g → plainGate g ≡ gateAt c (n - c .inputs)
+  gate-same g read =
+      let d = gateAt (record { inputs = 0; gates = [] }) 0 in
+      ap plainGate read ∙ sym (getD-map plainGate gates (n - i) g d gate-within) ∙ ap (λ (xs : List PlainGate). getD xs (n - i) d) same ∙ ap (λ (k : ℕ). gateAt c (n - k)) is
+
+  pub gate-good-there : (g : Gate) → g ≡ getD gates (n - i) g → T (validCircuit c) → T (validGate n (plainGate g))
+  gate-good-there g read valid = subst (λ (x : PlainGate). T (validGate n x)) (sym (gate-same g read)) (gate-valid c valid n low high)

@@ -1,5 +1,4 @@
 pub mod Places
-pub mod Valid
 pub mod Growth
 pub mod Parts
 pub mod Steps

@@ -45,7 +45,6 @@ use Rattle.settling_theory.proofs.Prefix.{listed-length, listed-at, rows-lengt
 use Rattle.settling_theory.proofs.Held.{held-inside, held-rule}
 use Rattle.settling_theory.proofs.Bounds.{tight-rows}
 
-
 -- the value that a letter allows is the one it fixes
 pub allowed-value : (x : Three) (b v : Bool) → x ≡ letter b → T (three.described x .allows v) → v ≡ b
 allowed-value x true true e h = refl
