@@ -8,11 +8,12 @@ use lib.Dec.{eqb}
 use Rattle.std.proofs.shelf.Tests.{and-parts, or-cases, or-left, or-right, not-true, eqb-true, false≢true}
 use Rattle.std.specs.declared.option.Option.{Option}
 use Rattle.std.specs.declared.option.Option.the-variants.{Some}
+use Rattle.std.specs.Options.{isSome}
 use Rattle.netlist.specs.Circuit.{PlainCircuit}
 use Rattle.runs.specs.declared.row.Bounds.{Bounds}
 use Rattle.runs.specs.declared.row.Row.{Row}
 use Rattle.runs.specs.Row.{boundsFrom, rowAt}
-use Rattle.ordering.specs.Rows.{someBelow, everyBelow, hasRow, cleanInput, isGiven, below}
+use Rattle.ordering.specs.Rows.{someBelow, everyBelow, hasRow, cleanInput, below}
 use Rattle.ordering.specs.Source.{YesIsBefore, YesHasRows}
 use Rattle.ordering.specs.SameInput.{noneBut, onlyInput, sameInput}
 use Rattle.ordering.proofs.Below.{some-at, every-at}
@@ -39,14 +40,14 @@ told c rows q p h =
     record { q-row = b .0; p-row = b .1; input = s .0; clean = e .0; apart = e .1; alone = d .1 }
 
 -- a number that gives bounds at one of the rows is the one input
-only-one : (i : ℕ) (x y : Row) (j : ℕ) → noneBut i x y j ≡ true → (isGiven (boundsFrom x j) || isGiven (boundsFrom y j)) ≡ true → j ≡ i
+only-one : (i : ℕ) (x y : Row) (j : ℕ) → noneBut i x y j ≡ true → (isSome (boundsFrom x j) || isSome (boundsFrom y j)) ≡ true → j ≡ i
 only-one i x y j h g =
     ⊎-elim (eqb-true j i)
     (λ e. absurd (false≢true (sym (not-true _ e) ∙ g)))
     (or-cases (eqb j i) _ h)
 
-given-some : (o : Option Bounds) (b : Bounds) → o ≡ Some b → isGiven o ≡ true
-given-some o b e = ap isGiven e
+given-some : (o : Option Bounds) (b : Bounds) → o ≡ Some b → isSome o ≡ true
+given-some o b e = ap isSome e
 
 pub same-input-first : YesIsBefore sameInput
 same-input-first seps c rows q p valid h run isRun met ok t u f g =

@@ -38,11 +38,6 @@ cleanNet c rows n = hasRow c rows n && isClean (rowAt rows n .class)
 abbrev pub cleanInput : PlainCircuit → List Row → ℕ → Bool
 cleanInput c rows i = ltb i (c .inputs) && cleanNet c rows i
 
--- there are bounds
-abbrev pub isGiven : Option Bounds → Bool
-isGiven None = false
-isGiven (Some b) = true
-
 -- both have bounds, and the greatest of the one lies below the least of the other
 abbrev pub below : Option Bounds → Option Bounds → Bool
 below None y = false

@@ -3,15 +3,16 @@ use mathlib.Core.Bool.{Bool, not, _&&_, _||_}
 use mathlib.Core.List.{List}
 use Prim.Native.Nat.{ℕ}
 use lib.Dec.{eqb}
+use Rattle.std.specs.Options.{isSome}
 use Rattle.netlist.specs.Circuit.{PlainCircuit}
 use Rattle.runs.specs.declared.row.Row.{Row}
 use Rattle.runs.specs.Row.{boundsFrom, rowAt}
 use Rattle.ordering.specs.Source.{Says}
-use Rattle.ordering.specs.Rows.{someBelow, everyBelow, hasRow, cleanInput, isGiven, below}
+use Rattle.ordering.specs.Rows.{someBelow, everyBelow, hasRow, cleanInput, below}
 
 -- number j is i, or gives no bounds at either row
 abbrev pub noneBut : ℕ → Row → Row → ℕ → Bool
-noneBut i x y j = eqb j i || not (isGiven (boundsFrom x j) || isGiven (boundsFrom y j))
+noneBut i x y j = eqb j i || not (isSome (boundsFrom x j) || isSome (boundsFrom y j))
 
 -- input i is clean, the first row's greatest bound from it lies below the second row's least, and no other number gives bounds at either
 abbrev pub onlyInput : PlainCircuit → List Row → Row → Row → ℕ → Bool

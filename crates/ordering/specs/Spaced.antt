@@ -7,13 +7,14 @@ use lib.IntN.{ℤ, pos, _+ℤ_}
 use lib.Signed.{ltZ}
 use Rattle.std.specs.declared.option.Option.{Option}
 use Rattle.std.specs.declared.option.Option.the-variants.{Some, None}
+use Rattle.std.specs.Options.{isSome}
 use Rattle.netlist.specs.Circuit.{PlainCircuit}
 use Rattle.runs.specs.declared.row.Bounds.{Bounds}
 use Rattle.runs.specs.declared.row.Row.{Row}
 use Rattle.runs.specs.Row.{boundsFrom, rowAt}
 use Rattle.separations.specs.Separations.{Separation, spacingIn}
 use Rattle.ordering.specs.Source.{Says}
-use Rattle.ordering.specs.Rows.{someBelow, everyBelow, hasRow, cleanInput, isGiven}
+use Rattle.ordering.specs.Rows.{someBelow, everyBelow, hasRow, cleanInput}
 
 -- there is a spacing, and the first greatest bound lies below the second least with the spacing added
 abbrev pub spacedBy : Option ℤ → Bounds → Bounds → Bool
@@ -27,6 +28,7 @@ agreed seps c rows j i None y = true
 agreed seps c rows j i (Some x) None = true
 agreed seps c rows j i (Some x) (Some y) = cond (eqb j i) (cleanInput c rows i && ltb (x .hi) (y .lo)) (spacedBy (spacingIn j i seps) x y)
 
+-- what the two rows have from these numbers agrees
 abbrev pub agrees : List Separation → PlainCircuit → List Row → Row → Row → ℕ → ℕ → Bool
 agrees seps c rows x y j i = agreed seps c rows j i (boundsFrom x j) (boundsFrom y i)
 
@@ -36,7 +38,7 @@ agreesWithAll seps c rows x y j = everyBelow (agrees seps c rows x y j) 16
 
 -- number i gives bounds at the row
 abbrev pub boundedBy : Row → ℕ → Bool
-boundedBy row i = isGiven (boundsFrom row i)
+boundedBy row i = isSome (boundsFrom row i)
 
 -- both nets have rows with bounds from at least one number, and every pair of numbers agrees
 abbrev pub spaced : Says
