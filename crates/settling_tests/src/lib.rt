@@ -9,7 +9,6 @@ mod tests {
     use ordering::SpacedSource;
     use ordering::Stem;
     use ordering::StemSource;
-    use ordering::ordered;
     use runs::Row;
     use settling::Tables;
     use settling::rest;
@@ -90,12 +89,12 @@ mod tests {
         let mut tables = strobe(rt.alloc(), 4)?;
         settle(&mut tables, &source);
         expect(tables.rows(), 4, "000", None, [Some(false), Some(false)])?;
-        check(ordered(&source, tables.circuit(), tables.rows(), 2, 3))?;
-        check(!ordered(&source, tables.circuit(), tables.rows(), 3, 2))?;
+        check(tables.order(&source, 2, 3))?;
+        check(!tables.order(&source, 3, 2))?;
         let mut near = strobe(rt.alloc(), 2)?;
         settle(&mut near, &source);
         expect(near.rows(), 4, "0X0", Some((2, 7)), [None, None])?;
-        check(!ordered(&source, near.circuit(), near.rows(), 2, 3))
+        check(!near.order(&source, 2, 3))
     }
 
     #[test]

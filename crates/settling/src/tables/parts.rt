@@ -1,24 +1,26 @@
 // The parts of the tables.
 ghost use mathlib.Core.Path.{_≡_};
+ghost use Rattle.settling.specs.Asked.{asked};
 ghost use Rattle.settling.specs.Tables.{circuitOf, classOfInput, classesOf, rowsOf};
 use crate::tables::Tables;
-use netlist::Circuit;
 use netlist::Net;
+use ordering::OrderSource;
 use runs::Row;
 use waveform::Class;
 
 impl Tables {
-    pub fn circuit(&self) -> &Circuit
-        ensures { λ r. ⌜ now r ≡ now (self .entry) .circuit ⌝ }
-    {
-        &self.circuit
-    }
-
     // The row of each net.
     pub fn rows(&self) -> &[Row]
         ensures { λ r. ⌜ now r ≡ rowsOf (now (self .entry)) ⌝ }
     {
         self.rows.as_slice()
+    }
+
+    // Whether the source says, over all rows, that every flip of net q comes before every flip of net p.
+    pub fn order<S: OrderSource>(&self, source: &S, q: Net, p: Net) -> bool
+        ensures { λ r. ⌜ r ≡ asked S·OrderSource (now (source .entry)) (now (self .entry) .circuit) (rowsOf (now (self .entry))) q p ⌝ }
+    {
+        source.before(&self.circuit, self.rows.as_slice(), q, p)
     }
 
     // The class of an input, or none for a number that is no input.
