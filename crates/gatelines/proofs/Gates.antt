@@ -14,7 +14,8 @@ use Rattle.waveform.specs.declared.function.Function.the-variants.{Buf, Not, An
 use Rattle.waveform.specs.Function.{described, takesPins}
 use Rattle.waveform.specs.Algebra.{evaluated}
 use Rattle.waveform.specs.Ops.{classOps}
-use Rattle.gatelines.specs.Line.{words, PinsRead, Says}
+use Rattle.words.specs.Words.{words}
+use Rattle.gatelines.specs.Line.{PinsRead, Says}
 
 most-pins : (f : Function) → described f .most ≤ 8
 most-pins Buf = lit≤ tt

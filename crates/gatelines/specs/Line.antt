@@ -1,9 +1,8 @@
 -- What a line says: its words name a gate function and the classes of its pins. Assumes nothing.
 use mathlib.Core.Path.{_≡_}
-use mathlib.Core.Bool.{cond}
 use mathlib.Core.List.{List, [], _∷_, map}
 use Prim.Native.Nat.{ℕ, _<_, _≤_}
-use lib.Dec.{T, eqb}
+use lib.Dec.{T}
 use lib.ListN.{length, take}
 use Rattle.std.specs.declared.result.Result.{Result}
 use Rattle.std.specs.declared.result.Result.the-variants.{Ok, Err}
@@ -13,32 +12,9 @@ use Rattle.waveform.specs.Class.{letters}
 use Rattle.waveform.specs.Function as function
 use Rattle.waveform.specs.Algebra.{evaluated}
 use Rattle.waveform.specs.Ops.{classOps}
+use Rattle.words.specs.Words.{words}
 use Rattle.gatelines.specs.declared.fault.LineFault.{LineFault}
 use Rattle.gatelines.specs.declared.fault.LineFault.the-variants.{UnknownFunction, UnknownClass, TooFewPins, TooManyPins}
-
--- one character more at the front of the first part
-abbrev pub longer : ℕ → List (List ℕ) → List (List ℕ)
-longer b [] = (b ∷ []) ∷ []
-longer b (p ∷ ps) = (b ∷ p) ∷ ps
-
--- the parts of a text between its spaces, empty ones too
-abbrev pub parts : List ℕ → List (List ℕ)
-parts [] = [] ∷ []
-parts (b ∷ bs) = cond (eqb b 32) ([] ∷ parts bs) (longer b (parts bs))
-
--- a part before these words, unless it is empty
-abbrev pub withWord : List ℕ → List (List ℕ) → List (List ℕ)
-withWord [] ws = ws
-withWord (b ∷ p) ws = (b ∷ p) ∷ ws
-
--- the parts that are not empty
-abbrev pub filled : List (List ℕ) → List (List ℕ)
-filled [] = []
-filled (p ∷ ps) = withWord p (filled ps)
-
--- the words of a text
-abbrev pub words : List ℕ → List (List ℕ)
-words text = filled (parts text)
 
 -- the words are the letters of these classes
 abbrev pub Classes : List (List ℕ) → List Class → Type 0

@@ -5,30 +5,14 @@ ghost use Prim.Native.Nat.{_<_};
 ghost use lib.ListN.{length, set};
 ghost use Rattle.std.specs.Options.{Cases};
 ghost use Rattle.waveform.specs.declared.class.Class.{Class as OneClass};
-ghost use Rattle.gatelines.specs.Line.{Classes, PinsRead, Says, words};
+ghost use Rattle.gatelines.specs.Line.{Classes, PinsRead, Says};
+ghost use Rattle.words.specs.Words.{words};
 use crate::fault::LineFault;
 use waveform::Class;
 use waveform::ClassAlgebra;
 use waveform::Function;
 use waveform::evaluate;
-
-// The first word of a text and what follows it, or none if only spaces are left.
-fn next_word(text: &str) -> Option<(&str, &str)>
-    ensures { λ r. ⌜ Cases r (words (now (text .entry)) ≡ []) (λ p. (words (now (text .entry)) ≡ (now (p .0) ∷ words (now (p .1)))) × (length (now (p .1)) < length (now (text .entry)))) ⌝ }
-{
-    let mut rest = text;
-    while let Some((word, after)) = rest.split_once(' ') {
-        if !word.is_empty() {
-            return Some((word, after));
-        }
-        rest = after;
-    }
-    if rest.is_empty() {
-        None
-    } else {
-        Some((rest, ""))
-    }
-}
+use words::next_word;
 
 // Puts the class at this place of the array; nothing changes if the array has no such place.
 fn put(pins: &mut [Class; 8], place: usize, class: Class)

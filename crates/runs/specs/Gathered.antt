@@ -15,7 +15,7 @@ abbrev pub delayed : PlainGate → Option Bounds → Option Bounds
 delayed g None = None
 delayed g (Some b) = Some (record { lo = b .lo + g .least; hi = b .hi + g .greatest })
 
--- the narrowest bounds that hold both
+-- the narrowest bounds that contain both
 abbrev pub joined : Option Bounds → Option Bounds → Option Bounds
 joined None y = y
 joined (Some x) None = Some x

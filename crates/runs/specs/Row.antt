@@ -47,7 +47,7 @@ pub record RowTrue (c : PlainCircuit) (run : Run) (n : ℕ) (row : Row) : Type 0
   pub bounded : (t : ℕ) → FlipsAt (wave run n) t → Bounded c run row t
   pub caused : c .inputs ≤ n → (t : ℕ) → FlipsAt (wave run n) t → Caused c run row (n - c .inputs) t
 
--- the row of a net; where there is none, a row that tells nothing
+-- the row of a net; where there is none, a row of class XXX without bounds or held pins
 abbrev pub rowAt : List Row → ℕ → Row
 rowAt rows n = getD rows n (record { class = CXXX; bounds = []; held = [] })
 

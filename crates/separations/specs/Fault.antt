@@ -9,7 +9,7 @@ pub record Refusal : Type 0 where
   pub layer : ℕ
   pub place : ℕ
 
--- the letter B, of the bench, as a character's code
+-- the letter B, of the bench that takes the calls, as a character's code
 abbrev pub letterB : ℕ
 letterB = 66
 

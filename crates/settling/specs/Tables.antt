@@ -26,7 +26,7 @@ classesOf t = t .classes
 abbrev pub rowsOf : Tables → List Row
 rowsOf t = vec-items (t .rows)
 
--- the row of a net before the first settling: it tells nothing
+-- the row of a net before the first settling: class XXX, no bounds, nothing held
 abbrev pub plainRow : Row
 plainRow = record { class = CXXX; bounds = replicate 16 None; held = replicate 8 None }
 

@@ -10,7 +10,7 @@ gate-examples = (refl, refl, refl, refl, refl, refl, refl, refl)
 
 settling-examples : SettlingExamples
 unfolding someBelow everyBelow
-settling-examples = (refl, refl, refl)
+settling-examples = (refl, refl, refl, refl, refl)
 
 pub twelve-examples : TwelveExamples
 twelve-examples = (gate-examples, examples, settling-examples)

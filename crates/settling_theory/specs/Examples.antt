@@ -1,8 +1,9 @@
 -- Twelve worked examples, computed by the definitions themselves: eight gates, two separations, two settlings. Assumes nothing.
 use mathlib.Core.Path.{_≡_}
+use mathlib.Core.Bool.{true}
 use mathlib.Core.List.{List, [], _∷_}
 use Prim.Native.Nat.{ℕ}
-use Rattle.std.specs.declared.option.Option.the-variants.{Some}
+use Rattle.std.specs.declared.option.Option.the-variants.{Some, None}
 use Rattle.waveform.specs.declared.function.Function.the-variants.{Not, Buf, And}
 use Rattle.waveform.specs.declared.class.Class.{Class}
 use Rattle.waveform.specs.declared.class.Class.the-variants.{C000, C0R1, C0X0}
@@ -36,15 +37,21 @@ oneRise = C0R1 ∷ C000 ∷ []
 abbrev pub piled : Says
 piled = stemmed (chained spaced)
 
--- the settled row of net 4, with no separations held
+-- the settled rows, with no separations held
+abbrev pub forkedRows : ℕ → List Row
+forkedRows least = settled (piled [] (forked least)) (forked least) oneRise
+
+-- the settled row of net 4
 abbrev pub rowOfAnd : ℕ → Row
-rowOfAnd least = rowAt (settled (piled [] (forked least)) (forked least) oneRise) 4
+rowOfAnd least = rowAt (forkedRows least) 4
 
 -- with net 3 at least 4 ticks late the NOT is done before the BUF begins, so the AND stays at 0;
 -- with 2 ticks it may flip, 2 to 7 ticks after input 0
 abbrev pub SettlingExamples : Type 0
 SettlingExamples =
-    (rowOfAnd 4 .class ≡ C000)
+    (piled [] (forked 4) (forkedRows 4) 2 3 ≡ true)
+    × (rowOfAnd 4 .class ≡ C000)
+    × (boundsFrom (rowOfAnd 4) 0 ≡ None)
     × (rowOfAnd 2 .class ≡ C0X0)
     × (boundsFrom (rowOfAnd 2) 0 ≡ Some (record { lo = 2; hi = 7 }))
 

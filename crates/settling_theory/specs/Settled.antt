@@ -91,10 +91,11 @@ abbrev pub heldBy : Asks → List Row → PlainGate → Option Bool → ℕ → 
 heldBy asks rows g None p = None
 heldBy asks rows g (Some control) p = orElse (heldAtStart asks rows g control p) (heldAtEnd asks rows g control p)
 
--- the value at which each of eight places is held; there is no pin past the gate's own
+-- the value at which one place is held; past the gate's pins none is
 abbrev pub heldPin : Asks → List Row → PlainGate → ℕ → Option Bool
 heldPin asks rows g p = cond (ltb p (length (g .pins))) (heldBy asks rows g (function.described (g .function) .control) p) None
 
+-- the value at which each of eight places is held
 abbrev pub heldPins : Asks → List Row → PlainGate → List (Option Bool)
 heldPins asks rows g = listed (heldPin asks rows g) 8
 
@@ -104,9 +105,11 @@ pinClass c None = c
 pinClass c (Some false) = C000
 pinClass c (Some true) = C111
 
+-- what each pin evaluates as
 abbrev pub pinClasses : List Row → PlainGate → List (Option Bool) → List Class
 pinClasses rows g held = listed (λ place. pinClass (rowAt rows (pinNet g place) .class) (getD held place None)) (length (g .pins))
 
+-- the class of the gate's net
 abbrev pub gateClass : List Row → PlainGate → List (Option Bool) → Class
 gateClass rows g held = evaluated classOps (g .function) (pinClasses rows g held)
 
@@ -114,6 +117,7 @@ gateClass rows g held = evaluated classOps (g .function) (pinClasses rows g held
 abbrev pub gateBounds : List Row → PlainGate → List (Option Bool) → Class → ℕ → Option Bounds
 gateBounds rows g held c i = cond (class.isConstant c) None (gathered (fromPlace rows i g held) (length (g .pins)))
 
+-- the row of a gate's net, from the rows below it
 abbrev pub gateRow : Asks → List Row → PlainGate → Row
 gateRow asks rows g = record {
   class = gateClass rows g (heldPins asks rows g);
@@ -125,6 +129,7 @@ gateRow asks rows g = record {
 abbrev pub inputBounds : Class → ℕ → ℕ → Option Bounds
 inputBounds c n i = cond (not (class.isConstant c) && eqb i n) (Some (record { lo = 0; hi = 0 })) None
 
+-- the row of an input
 abbrev pub inputRow : Class → ℕ → Row
 inputRow c n = record { class = c; bounds = listed (inputBounds c n) 16; held = listed (λ place. None) 8 }
 

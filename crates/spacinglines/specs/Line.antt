@@ -1,9 +1,7 @@
 -- What a line says: three words, each the number of an input or a spacing. Assumes nothing.
 use mathlib.Core.Path.{_≡_}
-use mathlib.Core.Bool.{cond}
 use mathlib.Core.List.{List, [], _∷_}
 use Prim.Native.Nat.{ℕ, _<_, _^_}
-use lib.Dec.{eqb}
 use mir.Syntax.{w32}
 use mir.Val.{SFits}
 use Rattle.std.specs.Reads.{Numeral, value, afterPlus, afterSign, signedValue}
@@ -11,27 +9,8 @@ use Rattle.std.specs.declared.result.Result.{Result}
 use Rattle.std.specs.declared.result.Result.the-variants.{Ok, Err}
 use Rattle.spacinglines.specs.declared.fault.LineFault.{LineFault}
 use Rattle.spacinglines.specs.declared.fault.LineFault.the-variants.{NotThree, First, Second, Third}
+use Rattle.words.specs.Words.{words}
 use Rattle.spacinglines.specs.declared.line.Line.{Line}
-
--- one character more at the front of the first part
-abbrev pub longer : ℕ → List (List ℕ) → List (List ℕ)
-longer b [] = (b ∷ []) ∷ []
-longer b (x ∷ xs) = (b ∷ x) ∷ xs
-
--- what stands between the spaces of a text, empty parts too
-abbrev pub fields : List ℕ → List (List ℕ)
-fields [] = [] ∷ []
-fields (b ∷ bs) = cond (eqb b 32) ([] ∷ fields bs) (longer b (fields bs))
-
--- the parts that are not empty
-abbrev pub filled : List (List ℕ) → List (List ℕ)
-filled [] = []
-filled ([] ∷ xs) = filled xs
-filled ((b ∷ x) ∷ xs) = (b ∷ x) ∷ filled xs
-
--- the words of a text
-abbrev pub words : List ℕ → List (List ℕ)
-words text = filled (fields text)
 
 -- the word is a decimal number below 256
 abbrev pub IsByte : List ℕ → Type 0
@@ -42,7 +21,7 @@ abbrev pub IsSpacing : List ℕ → Type 0
 IsSpacing x = Numeral 10 (afterSign x) × SFits w32 (signedValue 10 x)
 
 -- the line's numbers are those of these words
-pub record Three (x y z : List ℕ) (l : Line) : Type 0 where
+pub record Numbers (x y z : List ℕ) (l : Line) : Type 0 where
   pub first : l .a ≡ value 10 (afterPlus x)
   pub second : l .b ≡ value 10 (afterPlus y)
   pub third : l .s ≡ signedValue 10 z
@@ -53,7 +32,7 @@ Words text x y z = words text ≡ x ∷ y ∷ z ∷ []
 
 -- what comes of the line: its numbers, or what is wrong, of several things the first in this order
 abbrev pub Reads : List ℕ → Result Line LineFault → Type 0
-Reads text (Ok l) = (x : List ℕ) × (y : List ℕ) × (z : List ℕ) × Words text x y z × IsByte x × IsByte y × IsSpacing z × Three x y z l
+Reads text (Ok l) = (x : List ℕ) × (y : List ℕ) × (z : List ℕ) × Words text x y z × IsByte x × IsByte y × IsSpacing z × Numbers x y z l
 Reads text (Err NotThree) = (x y z : List ℕ) → Words text x y z → ⊥
 Reads text (Err First) = (x : List ℕ) × (y : List ℕ) × (z : List ℕ) × Words text x y z × (IsByte x → ⊥)
 Reads text (Err Second) = (x : List ℕ) × (y : List ℕ) × (z : List ℕ) × Words text x y z × IsByte x × (IsByte y → ⊥)

@@ -1,11 +1,12 @@
 // Reading a line as two inputs and a spacing.
 ghost use mathlib.Core.Path.{_≡_};
 ghost use mathlib.Core.List.{List, [], _∷_};
-ghost use Prim.Native.Nat.{ℕ, _<_};
-ghost use lib.ListN.{length};
+ghost use Prim.Native.Nat.{ℕ};
 ghost use Rattle.std.specs.Options.{Cases};
-ghost use Rattle.spacinglines.specs.Line.{fields, words, Reads};
+ghost use Rattle.spacinglines.specs.Line.{Reads};
+ghost use Rattle.words.specs.Words.{words};
 use crate::fault::LineFault;
+use words::next_word;
 
 // The separation of inputs a and b by s ticks, as a line gives it.
 #[derive(Clone, Copy)]
@@ -13,31 +14,6 @@ pub struct Line {
     pub a: u8,
     pub b: u8,
     pub s: i32,
-}
-
-// What stands before the first space of a text and what stands after it, or none if the text has no space.
-fn cut(text: &str) -> Option<(&str, &str)>
-    ensures { λ r. ⌜ Cases r (fields (now (text .entry)) ≡ now (text .entry) ∷ []) (λ p. (fields (now (text .entry)) ≡ now (p .0) ∷ fields (now (p .1))) × (length (now (p .1)) < length (now (text .entry)))) ⌝ }
-{
-    text.split_once(' ')
-}
-
-// The first word of a text and what follows it, or none if only spaces are left.
-fn next_word(text: &str) -> Option<(&str, &str)>
-    ensures { λ r. ⌜ Cases r (words (now (text .entry)) ≡ []) (λ p. words (now (text .entry)) ≡ now (p .0) ∷ words (now (p .1))) ⌝ }
-{
-    let mut rest = text;
-    while let Some((word, after)) = cut(rest) {
-        if !word.is_empty() {
-            return Some((word, after));
-        }
-        rest = after;
-    }
-    if rest.is_empty() {
-        None
-    } else {
-        Some((rest, ""))
-    }
 }
 
 // The three words of a line, or none if it has more or fewer.

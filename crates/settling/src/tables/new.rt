@@ -14,7 +14,7 @@ use std::alloc::Global;
 use waveform::Class;
 
 impl Tables {
-    // Tables with every input constant 0 and rows that tell nothing, or a fault if there is no memory for the rows.
+    // Tables with every input constant 0 and rows of class XXX without bounds or held pins, or a fault if there is no memory for the rows.
     pub fn new(heap: Global, circuit: Circuit) -> Result<Tables, AllocError>
         ensures circuit { λ r. ⌜ made r (λ t. t .circuit ≡ circuit) ⌝ }
         ensures classes { λ r. ⌜ made r (λ t. classesOf t ≡ replicate 16 C000) ⌝ }

@@ -1,6 +1,6 @@
 -- The value of a gate whose pins the function may have.
 use borrow.Author.Needs.{needs}
-use Rattle.gatelines.specs.Line.{words}
+use Rattle.words.specs.Words.{words}
 use Rattle.gatelines.proofs.Gates.{gate-said}
 use Rattle.gatelines.proofs.line.class_of_line.Needs as need
 

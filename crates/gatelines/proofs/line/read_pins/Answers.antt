@@ -1,7 +1,7 @@
 -- A word more is a class more, or shows that the words are not all classes.
 use native.Mathlib.Omega.{arith}
 use borrow.Author.Needs.{needs}
-use Rattle.gatelines.specs.Line.{words}
+use Rattle.words.specs.Words.{words}
 use Rattle.gatelines.proofs.Pins.{held-more, held-bad}
 use Rattle.gatelines.proofs.line.read_pins.Needs as need
 

@@ -4,7 +4,7 @@ use Prim.Native.Nat.{_+_, _≤_}
 use denote.Text.{Utf8}
 use denote.Shadow.{shadow}
 use lib.ListN.{length}
-use Rattle.gatelines.specs.Line.{words}
+use Rattle.words.specs.Words.{words}
 use Rattle.gatelines.proofs.Pins.{Held}
 use Rattle.gatelines.proofs.line.read_pins.Given as given
 

@@ -6,7 +6,7 @@ use Prim.Native.Nat.{ℕ, suc, _<_, _≤_}
 use native.Mathlib.Omega.{arith}
 use lib.Dec.{T, eqb, eqb→eq, eqb·suc-zero}
 use lib.ListN.{length, getD, length-append}
-use Rattle.gatelines.specs.Line.{longer, parts, withWord, filled, words}
+use Rattle.words.specs.Words.{longer, parts, withWord, filled, words}
 
 -- no space among these
 abbrev pub NoSpace : List ℕ → Type 0
