@@ -4,7 +4,6 @@
 #[cfg(test)]
 mod tests {
     use netlist::Circuit;
-    use netlist::fault::CircuitFaultDebug;
     use ordering::Chain;
     use ordering::ChainSource;
     use ordering::OrderSource;
@@ -19,6 +18,7 @@ mod tests {
     use ordering::ordered;
     use runs::Bounds;
     use runs::Row;
+    use std::alloc::Global;
     use std::test::*;
     use waveform::Class;
 
@@ -73,6 +73,14 @@ mod tests {
         3,
     ];
 
+    // The circuit of the file.
+    fn small(heap: Global) -> Result<Circuit, Fail> {
+        match Circuit::read(heap, &FILE) {
+            Ok((circuit, _)) => Ok(circuit),
+            Err(_) => Err(Fail::new("no circuit")),
+        }
+    }
+
     // A row with bounds from one input.
     fn row(class: Class, input: usize, lo: u32, hi: u32) -> Row {
         let mut bounds = [None; 16];
@@ -108,7 +116,7 @@ mod tests {
 
     #[test]
     fn silent_says_nothing(rt: LibcRuntime) -> Result<(), Fail> {
-        let (circuit, _) = Circuit::read(rt.alloc(), &FILE)?;
+        let circuit = small(rt.alloc())?;
         let mut source = Silent;
         check_eq(number(&mut source, 0, 1, 5), 12)?;
         check_eq(number(&mut source, 16, 1, 5), 9)?;
@@ -117,7 +125,7 @@ mod tests {
 
     #[test]
     fn same_input_orders_by_bounds(rt: LibcRuntime) -> Result<(), Fail> {
-        let (circuit, _) = Circuit::read(rt.alloc(), &FILE)?;
+        let circuit = small(rt.alloc())?;
         let mut rows = rising();
         check_eq(ordered(&SameInput, &circuit, &rows, 2, 3), true)?;
         check_eq(ordered(&SameInput, &circuit, &rows, 3, 2), false)?;
@@ -134,7 +142,7 @@ mod tests {
 
     #[test]
     fn rows_that_are_not_there(rt: LibcRuntime) -> Result<(), Fail> {
-        let (circuit, _) = Circuit::read(rt.alloc(), &FILE)?;
+        let circuit = small(rt.alloc())?;
         let rows = rising();
         check_eq(ordered(&SameInput, &circuit, &rows[0..4], 2, 3), true)?;
         check_eq(ordered(&SameInput, &circuit, &rows[0..3], 2, 3), false)?;
@@ -147,7 +155,7 @@ mod tests {
 
     #[test]
     fn spaced_orders_by_separations(rt: LibcRuntime) -> Result<(), Fail> {
-        let (circuit, _) = Circuit::read(rt.alloc(), &FILE)?;
+        let circuit = small(rt.alloc())?;
         let rows = rising();
         let mut source = Spaced::new();
         check_eq(ordered(&source, &circuit, &rows, 2, 3), true)?;
@@ -164,7 +172,7 @@ mod tests {
 
     #[test]
     fn chain_goes_through_clean_nets(rt: LibcRuntime) -> Result<(), Fail> {
-        let (circuit, _) = Circuit::read(rt.alloc(), &FILE)?;
+        let circuit = small(rt.alloc())?;
         let mut rows = rising();
         rows[5] = row(Class::C0X1, 2, 20, 30);
         let mut source = Chain {
@@ -184,7 +192,7 @@ mod tests {
 
     #[test]
     fn stem_ties_nets(rt: LibcRuntime) -> Result<(), Fail> {
-        let (circuit, _) = Circuit::read(rt.alloc(), &FILE)?;
+        let circuit = small(rt.alloc())?;
         let mut rows = [row(Class::C0R1, 16, 0, 0); 6];
         let source = Stem { below: Silent };
         check_eq(ordered(&source, &circuit, &rows, 2, 3), true)?;
@@ -204,7 +212,25 @@ mod tests {
     }
 
     #[test]
+    fn spaced_uses_no_implied_separation(rt: LibcRuntime) -> Result<(), Fail> {
+        let circuit = small(rt.alloc())?;
+        let mut rows = rising();
+        rows[4] = row(Class::C0R1, 2, 7, 9);
+        let mut source = Spaced::new();
+        check_eq(number(&mut source, 0, 1, 10), 0)?;
+        check_eq(number(&mut source, 1, 2, 10), 0)?;
+        check_eq(ordered(&source, &circuit, &rows, 3, 4), false).note(
+            "0 and 2 are 20 apart, but not held so",
+        )?;
+        check_eq(number(&mut source, 0, 2, 0), 0)?;
+        check_eq(ordered(&source, &circuit, &rows, 3, 4), true)
+    }
+
+    #[test]
     fn layers_take_what_is_below() -> Result<(), Fail> {
+        check_eq(<Chain<Stem<Spaced>> as OrderSource>::TAKES, true)?;
+        check_eq(<Stem<Chain<SameInput>> as OrderSource>::TAKES, false)?;
+        check_eq(<Stem<Silent> as OrderSource>::TAKES, false)?;
         check_eq(<Chain<Stem<Spaced>> as OrderSource>::accepts(), true)?;
         check_eq(<Stem<Chain<SameInput>> as OrderSource>::accepts(), false)
     }

@@ -3,6 +3,7 @@ ghost use mathlib.Core.Path.{_≡_};
 ghost use Rattle.std.specs.Results.{Cases};
 ghost use Rattle.std.specs.declared.option.Option.the-variants.{Some};
 ghost use Rattle.session.specs.Line.{acceptedLine, lineText, Tells};
+ghost use Rattle.netlist.specs.Outcome.{LayoutDetermines, OneOutcome};
 ghost use Rattle.netlist.specs.View.{plain};
 use netlist::Circuit;
 use netlist::LayerDisplay;
@@ -58,7 +59,9 @@ fn accepted_line(circuit: &Circuit, used: usize) -> Line
 
 // The line for a circuit file: the circuit that it holds, or why it is refused.
 pub fn circuit_line(heap: Global, bytes: &[u8]) -> Result<Line, AllocError>
-    ensures { λ r. ⌜ Cases r (λ line. Tells (now (bytes .entry)) line) (λ _. Unit {0}) ⌝ }
+    ensures outcome { λ r. ⌜ Cases r (λ line. Tells (now (bytes .entry)) line) (λ _. Unit {0}) ⌝ }
+    ensures one { λ r. ⌜ OneOutcome ⌝ }
+    ensures layout { λ r. ⌜ LayoutDetermines ⌝ }
 {
     match Circuit::read(heap, bytes) {
         Ok((circuit, used)) => Ok(accepted_line(&circuit, used)),

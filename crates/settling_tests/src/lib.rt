@@ -149,6 +149,22 @@ mod tests {
         expect(tables.rows(), 1, "0X0", Some((1, 1)), [None, None])
     }
 
+    // An input that stays at 1 neither holds nor hides the other pin; one that stays at 0 decides the gate.
+    #[test]
+    fn a_pin_that_never_flips(rt: LibcRuntime) -> Result<(), Fail> {
+        let mut bytes = Vec::new(rt.alloc());
+        bytes.extend_from_slice(&[2, 0, 1, 0, 2, 1])?;
+        put_gate(&mut bytes, 2, 3, 4, &[0, 1])?;
+        let mut tables = loaded(rt.alloc(), bytes.as_slice())?;
+        check(tables.stimulate(0, Class::C0R1))?;
+        check(tables.stimulate(1, Class::C111))?;
+        settle(&mut tables, &pile());
+        expect(tables.rows(), 2, "0R1", Some((3, 4)), [None, None])?;
+        check(tables.stimulate(1, Class::C000))?;
+        settle(&mut tables, &pile());
+        expect(tables.rows(), 2, "000", None, [None, None])
+    }
+
     // The first pin holds the second and is itself held, by the third.
     #[test]
     fn a_holder_that_is_held(rt: LibcRuntime) -> Result<(), Fail> {
