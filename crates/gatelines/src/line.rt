@@ -8,9 +8,10 @@ ghost use Rattle.waveform.specs.declared.class.Class.{Class as OneClass};
 ghost use Rattle.gatelines.specs.Line.{Classes, PinsRead, Says};
 ghost use Rattle.words.specs.Words.{words};
 use crate::fault::LineFault;
+use names::from_letters;
+use names::from_name;
 use waveform::Class;
 use waveform::ClassAlgebra;
-use waveform::Function;
 use waveform::evaluate;
 use words::next_word;
 
@@ -31,7 +32,7 @@ fn read_pins(text: &str, pins: &mut [Class; 8]) -> Option<usize>
     let mut rest = text;
     let mut count = 0usize;
     while let Some((word, after)) = next_word(rest) {
-        let Some(class) = Class::from_letters(word) else {
+        let Some(class) = from_letters(word) else {
             return None;
         };
         put(pins, count, class);
@@ -49,7 +50,7 @@ pub fn class_of_line(line: &str) -> Result<Class, LineFault>
     let Some((name, rest)) = next_word(line) else {
         return Err(LineFault::UnknownFunction);
     };
-    let Some(function) = Function::from_name(name) else {
+    let Some(function) = from_name(name) else {
         return Err(LineFault::UnknownFunction);
     };
     let mut pins = [Class::C000; 8];

@@ -3,7 +3,7 @@ ghost use mathlib.Core.Path.{_≡_};
 ghost use Prim.Native.Nat.{_<_};
 ghost use Rattle.std.specs.Options.{Cases};
 ghost use Rattle.std.specs.declared.option.Option.the-variants.{Some};
-ghost use Rattle.waveform.specs.Class.{NoneLettered, described, isClean, isConstant, letters};
+ghost use Rattle.waveform.specs.Class.{described, isClean, isConstant, letters};
 use crate::three::Three;
 use std::fmt;
 
@@ -51,28 +51,6 @@ impl Class {
         ensures { λ r. ⌜ r ≡ described self .code ⌝ }
     {
         self as u8
-    }
-
-    // The class of these three letters, or none if no class has them.
-    pub fn from_letters(text: &str) -> Option<Class>
-        ensures { λ r. ⌜ Cases r (NoneLettered (now (text .entry))) (λ c. letters c ≡ now (text .entry)) ⌝ }
-    {
-        match text {
-            "000" => Some(Class::C000),
-            "111" => Some(Class::C111),
-            "0R1" => Some(Class::C0R1),
-            "1F0" => Some(Class::C1F0),
-            "0X0" => Some(Class::C0X0),
-            "0X1" => Some(Class::C0X1),
-            "1X0" => Some(Class::C1X0),
-            "1X1" => Some(Class::C1X1),
-            "0XX" => Some(Class::C0XX),
-            "1XX" => Some(Class::C1XX),
-            "XX0" => Some(Class::CXX0),
-            "XX1" => Some(Class::CXX1),
-            "XXX" => Some(Class::CXXX),
-            _ => None,
-        }
     }
 
     pub fn letters(self) -> &'static str

@@ -2,7 +2,7 @@
 ghost use mathlib.Core.Path.{_≡_};
 ghost use Prim.Native.Nat.{_<_};
 ghost use Rattle.std.specs.Options.{Cases};
-ghost use Rattle.waveform.specs.Function.{NoneNamed, described, takesPins};
+ghost use Rattle.waveform.specs.Function.{described, takesPins};
 
 #[derive(Clone, Copy, PartialEq, Eq, Debug)]
 pub enum Function {
@@ -46,23 +46,6 @@ impl Function {
             Function::Nor => 5,
             Function::Xor => 6,
             Function::Xnor => 7,
-        }
-    }
-
-    // The function of this name, or none if no function has it.
-    pub fn from_name(name: &str) -> Option<Function>
-        ensures { λ r. ⌜ Cases r (NoneNamed (now (name .entry))) (λ f. described f .name ≡ now (name .entry)) ⌝ }
-    {
-        match name {
-            "BUF" => Some(Function::Buf),
-            "NOT" => Some(Function::Not),
-            "AND" => Some(Function::And),
-            "NAND" => Some(Function::Nand),
-            "OR" => Some(Function::Or),
-            "NOR" => Some(Function::Nor),
-            "XOR" => Some(Function::Xor),
-            "XNOR" => Some(Function::Xnor),
-            _ => None,
         }
     }
 

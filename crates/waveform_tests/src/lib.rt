@@ -1,6 +1,8 @@
 // Tests of crate `waveform`: round trips over all codes, and tables of gates.
 #[cfg(test)]
 mod tests {
+    use names::from_letters;
+    use names::from_name;
     use std::test::*;
     use waveform::Class;
     use waveform::ClassAlgebra;
@@ -20,10 +22,10 @@ mod tests {
         for code in 0..8u8 {
             let function = Function::from_code(code).ok_or("no function")?;
             check_eq(function.code(), code)?;
-            check_eq(Function::from_name(function.name()), Some(function))?;
+            check_eq(from_name(function.name()), Some(function))?;
         }
         check_eq(Function::from_code(8), None)?;
-        check_eq(Function::from_name("and"), None)
+        check_eq(from_name("and"), None)
     }
 
     #[test]
@@ -31,12 +33,12 @@ mod tests {
         for code in 0..13u8 {
             let class = Class::from_code(code).ok_or("no class")?;
             check_eq(class.code(), code)?;
-            check_eq(Class::from_letters(class.letters()), Some(class))?;
+            check_eq(from_letters(class.letters()), Some(class))?;
             check_eq(class.letters().chars().next(), Some(class.start().letter()))?;
             check_eq(class.letters().chars().last(), Some(class.end().letter()))?;
         }
         check_eq(Class::from_code(13), None)?;
-        check_eq(Class::from_letters("0R0"), None)
+        check_eq(from_letters("0R0"), None)
     }
 
     #[test]
@@ -51,10 +53,10 @@ mod tests {
             ("OR", "1XX", "XX1", "1X1"),
         ];
         for (name, left, right, out) in gates.iter().copied() {
-            let function = Function::from_name(name).ok_or("no function")?;
+            let function = from_name(name).ok_or("no function")?;
             let pins = [
-                Class::from_letters(left).ok_or("no class")?,
-                Class::from_letters(right).ok_or("no class")?,
+                from_letters(left).ok_or("no class")?,
+                from_letters(right).ok_or("no class")?,
             ];
             check_eq(evaluate(function, &pins).letters(), out)?;
         }
