@@ -1,4 +1,6 @@
 // Reads a circuit file from standard input and prints what it holds or why it is refused.
+#![tactic(auto)]
+
 use session::line::circuit_line;
 use std::io::Read;
 

@@ -1,4 +1,6 @@
 // What a wire does: three values, thirteen classes of waveforms.
+#![tactic(auto)]
+
 pub mod class;
 pub mod three;
 

@@ -1,4 +1,6 @@
 // Gate functions and classes by the names that are written for them.
+#![tactic(auto)]
+
 ghost use Rattle.std.specs.Prelude.{◌≡◌, MatchOption};
 ghost use Rattle.classes.specs.Class.{NoneLettered, letters};
 ghost use Rattle.functions.specs.Function.{NoneNamed, described};

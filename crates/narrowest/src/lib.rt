@@ -1,4 +1,6 @@
 // Gate evaluation at the thirteen classes and at the three values gives the narrowest value that contains every output.
+#![tactic(auto)]
+
 ghost use Rattle.std.specs.Prelude.{◌≡◌};
 ghost use Rattle.waveform.specs.Algebra.{evaluated};
 ghost use Rattle.classes.specs.Class.{In, Narrower};

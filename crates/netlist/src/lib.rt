@@ -1,4 +1,6 @@
 // The circuit file: circuits and gates, and why a file is refused.
+#![tactic(auto)]
+
 pub mod circuit;
 pub mod fault;
 pub mod gate;

@@ -1,4 +1,6 @@
 // Circuit files, accepted and refused: worked cases as tables.
+#![tactic(auto)]
+
 #[cfg(test)]
 mod tests {
     use session::line::circuit_line;

@@ -1,4 +1,6 @@
 // Order sources: what is known of the order of two nets' flips.
+#![tactic(auto)]
+
 pub mod asking;
 pub mod chain;
 mod refusal;

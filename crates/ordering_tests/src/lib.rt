@@ -1,5 +1,7 @@
 // Tests of the order sources on a small circuit: inputs 0 and 1, then buffers 2 and 3 of input 0 and 4 of input 1, and gate 5,
 // a conjunction of 2 and 3.
+#![tactic(auto)]
+
 
 #[cfg(test)]
 mod tests {

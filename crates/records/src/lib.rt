@@ -1,4 +1,6 @@
 // Records over borrowed bytes, and what a file is refused with.
+#![tactic(auto)]
+
 pub mod fault;
 pub mod reader;
 

@@ -1,4 +1,6 @@
 // Runs of a circuit, and rows: what is known of a net in every run.
+#![tactic(auto)]
+
 pub mod gate;
 pub mod row;
 pub mod run;

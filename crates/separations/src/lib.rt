@@ -1,4 +1,6 @@
 // Separations between inputs: which are held, and the exact test whether one more would contradict them.
+#![tactic(auto)]
+
 mod check;
 pub mod examples;
 pub mod fault;

@@ -1,4 +1,6 @@
 // Settling: one row for each net of a circuit, and rest, which needs no settling.
+#![tactic(auto)]
+
 mod bounds;
 mod classes;
 mod holding;

@@ -1,4 +1,6 @@
 // Settling and rest on small circuits and on the largest one, over stem over chain over spaced.
+#![tactic(auto)]
+
 #[cfg(test)]
 mod tests {
     use classes::Class;

@@ -1,4 +1,6 @@
 // The theory of settling: what the rows mean and that they are true in every run.
+#![tactic(auto)]
+
 pub mod examples;
 pub mod rest;
 pub mod rows;

@@ -1,4 +1,6 @@
 // Waveforms and the gate rule: theory that every other crate rests on. Each function computes nothing; its contract is a theorem.
+#![tactic(auto)]
+
 ghost use Rattle.signals.specs.Holding.{FlipsFromUnheld, HoldingIsHarmless};
 ghost use Rattle.signals.specs.Theorems.{Determined, FlipsFromPins, OneOutput};
 

@@ -2,6 +2,8 @@
 // Gives each to a spaced source and prints `ok`, or `no` and the number of the refusal. For a line that is no separation it
 // prints the line's number and what is wrong, and goes on. At the end it prints what is held, by rising first input, then
 // by rising second input. Bytes that are no text are read as a character that no number has.
+#![tactic(auto)]
+
 use ordering::{OrderSource, Spaced};
 use spacinglines::read_line;
 use std::io;

@@ -1,4 +1,6 @@
 // Lines such as `0 1 -5`: two inputs and a spacing in ticks.
+#![tactic(auto)]
+
 pub mod fault;
 pub mod line;
 

@@ -1,4 +1,6 @@
 // What a gate makes of its pins: one evaluation for every switching algebra, the three values and the thirteen classes among them.
+#![tactic(auto)]
+
 pub mod algebra;
 pub mod evaluation;
 pub mod theorems;

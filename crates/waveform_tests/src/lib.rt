@@ -1,4 +1,6 @@
 // Tests of crate `waveform`: round trips over all codes, and tables of gates.
+#![tactic(auto)]
+
 #[cfg(test)]
 mod tests {
     use classes::{Class, Three};

@@ -1,4 +1,6 @@
 // Words of a text, one after the other.
+#![tactic(auto)]
+
 ghost use Rattle.std.specs.Prelude.{◌≡◌, ◌<◌, not, [], ◌∷◌, length, MatchOption, ◌==◌};
 ghost use Rattle.words.specs.Words.{words};
 
