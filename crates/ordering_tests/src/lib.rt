@@ -2,7 +2,6 @@
 // a conjunction of 2 and 3.
 #![tactic(auto)]
 
-
 #[cfg(test)]
 mod tests {
     use classes::Class;

@@ -1,7 +1,6 @@
 // Tests of the crate separations on examples.
 #![tactic(auto)]
 
-
 #[cfg(test)]
 mod tests {
     use separations::{SeparationFault, Separations};
