@@ -6,5 +6,5 @@ use Rattle.narrowest.proofs.evaluate_values.Goals as goal
 
 pub returns : goal.returns
 returns c =
-    let e = c.folded-values.ensures.value in
-    record { value = e; narrowest = narrowest_from Stands _ c.args.pins.now _ _ (three_least c.args.function c.args.pins.now) e c.folded-values.ensures.contains }
+    let e = c.folded_values.ensures.value in
+    record { value = e; narrowest = narrowest_from Stands _ c.args.pins.now _ _ (three_least c.args.function c.args.pins.now) e c.folded_values.ensures.contains }

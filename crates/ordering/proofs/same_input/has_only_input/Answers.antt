@@ -9,8 +9,8 @@ loop-i-init c = search (rules, somes)
 pub loop-i-preserved : goal.loop-i-preserved
 loop-i-preserved c = search (rules, somes)
 
-pub returns-then-is-only-input : goal.returns-then-is-only-input
-returns-then-is-only-input c = search (rules, somes)
+pub returns-then-is_only_input : goal.returns-then-is_only_input
+returns-then-is_only_input c = search (rules, somes)
 
 pub returns : goal.returns
 returns c = search (rules, somes)

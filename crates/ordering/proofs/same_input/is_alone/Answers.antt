@@ -9,8 +9,8 @@ loop-j-init c = search (rules, everys)
 pub loop-j-preserved : goal.loop-j-preserved
 loop-j-preserved c = search (rules, everys)
 
-pub returns-then-not-is-none-but : goal.returns-then-not-is-none-but
-returns-then-not-is-none-but c = search (rules, everys)
+pub returns-then-not-is_none_but : goal.returns-then-not-is_none_but
+returns-then-not-is_none_but c = search (rules, everys)
 
 pub returns : goal.returns
 returns c = search (rules, everys)

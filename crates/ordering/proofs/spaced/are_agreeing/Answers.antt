@@ -9,8 +9,8 @@ loop-j-init c = search (rules, everys)
 pub loop-j-preserved : goal.loop-j-preserved
 loop-j-preserved c = search (rules, everys)
 
-pub returns-then-not-is-agreeing-with-all : goal.returns-then-not-is-agreeing-with-all
-returns-then-not-is-agreeing-with-all c = search (rules, everys)
+pub returns-then-not-is_agreeing_with_all : goal.returns-then-not-is_agreeing_with_all
+returns-then-not-is_agreeing_with_all c = search (rules, everys)
 
 pub returns : goal.returns
 returns c = search (rules, everys)

@@ -9,8 +9,8 @@ loop-i-init c = search (rules, everys)
 pub loop-i-preserved : goal.loop-i-preserved
 loop-i-preserved c = search (rules, everys)
 
-pub returns-then-not-is-agreeing : goal.returns-then-not-is-agreeing
-returns-then-not-is-agreeing c = search (rules, everys)
+pub returns-then-not-is_agreeing : goal.returns-then-not-is_agreeing
+returns-then-not-is_agreeing c = search (rules, everys)
 
 pub returns : goal.returns
 returns c = search (rules, everys)

@@ -9,8 +9,8 @@ loop-i-init c = search (rules, somes)
 pub loop-i-preserved : goal.loop-i-preserved
 loop-i-preserved c = search (rules, somes)
 
-pub returns-then-is-some : goal.returns-then-is-some
-returns-then-is-some c = search (rules, somes)
+pub returns-then-is_some : goal.returns-then-is_some
+returns-then-is_some c = search (rules, somes)
 
 pub returns : goal.returns
 returns c = search (rules, somes)

@@ -9,8 +9,8 @@ loop-s-init c = search (rules, somes)
 pub loop-s-preserved : goal.loop-s-preserved
 loop-s-preserved c = search (rules, somes)
 
-pub returns-then-is-stem : goal.returns-then-is-stem
-returns-then-is-stem c = search (rules, somes)
+pub returns-then-is_stem : goal.returns-then-is_stem
+returns-then-is_stem c = search (rules, somes)
 
 pub returns : goal.returns
 returns c = search (rules, somes)

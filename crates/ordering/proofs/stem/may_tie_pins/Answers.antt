@@ -4,7 +4,7 @@ use Rattle.netlist.specs.View.{plain}
 use Rattle.ordering.proofs.TieSteps.{apart_untied, loose_pin}
 use Rattle.ordering.proofs.stem.may_tie_pins.Goals as goal
 
-pub returns-then-is-live : goal.returns-then-is-live
-returns-then-is-live c =
-    λ _. loose_pin c.args.rows.now _ c.args.row.now c.args.pins.now c.loop-k.k c.loop-k-test.true (sym c.is-live.ensures ∙ c.if-is-live.true)
-    (apart_untied (plain c.args.circuit.now) c.args.circuit.now.valid c.args.rows.now c.args.s _ (sym c.is-apart.ensures ∙ c.if-is-apart.true))
+pub returns-then-is_live : goal.returns-then-is_live
+returns-then-is_live c =
+    λ _. loose_pin c.args.rows.now _ c.args.row.now c.args.pins.now c.loop-k.k c.loop-k-test.true (sym c.is_live.ensures ∙ c.if-is_live.true)
+    (apart_untied (plain c.args.circuit.now) c.args.circuit.now.valid c.args.rows.now c.args.s _ (sym c.is_apart.ensures ∙ c.if-is_apart.true))

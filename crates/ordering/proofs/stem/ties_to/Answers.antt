@@ -10,4 +10,4 @@ loop-n-init c = table_starts (plain c.args.circuit.now) c.args.circuit.now.valid
 pub loop-n-preserved : goal.loop-n-preserved
 loop-n-preserved c =
     table_grows (plain c.args.circuit.now) c.args.circuit.now.valid c.args.rows.now c.args.s c.loop-n.ties c.loop-n.n
-    (omega (arith, c.requires)) (omega (arith, c.ranges.top)) c.loop-n.invariant c.tie-of.result c.tie-of.ensures.told c.tie-of.ensures.small
+    (omega (arith, c.requires)) (omega (arith, c.ranges.top)) c.loop-n.invariant c.tie_of.result c.tie_of.ensures.told c.tie_of.ensures.small

@@ -7,16 +7,16 @@ use Rattle.runs.proofs.gate.gate_of.Goals as goal
 pub bounds-gates-net : goal.bounds-gates-net
 bounds-gates-net c =
     let whole = plain c.args.circuit.now in
-    let place = driven whole c.args.net (sym c.is-driven.ensures ∙ c.if-is-driven.true) in
+    let place = driven whole c.args.net (sym c.is_driven.ensures ∙ c.if-is_driven.true) in
     gate_within whole c.gates.result.now c.from.result c.args.net c.gates.ensures (c.from.ensures ∙ c.inputs.ensures) place.0 place.1
 
-pub returns-then-is-driven : goal.returns-then-is-driven
-returns-then-is-driven c =
+pub returns-then-is_driven : goal.returns-then-is_driven
+returns-then-is_driven c =
     let held = c.args.circuit.now in
     let whole = plain held in
     let gates = c.gates.result.now in
     let i = c.from.result in
-    let place = driven whole c.args.net (sym c.is-driven.ensures ∙ c.if-is-driven.true) in
+    let place = driven whole c.args.net (sym c.is_driven.ensures ∙ c.if-is_driven.true) in
     let is = c.from.ensures ∙ c.inputs.ensures in
     let g = c.index-gates-net.result in
     record {

@@ -8,7 +8,7 @@ use Rattle.separations.proofs.check.pass.Goals as goal
 pub loop-b-preserved : goal.loop-b-preserved
 loop-b-preserved c = (
   search rules,
-  rw c.time-after.ensures
+  rw c.time_after.ensures
       (fill_by_more (λ k. latest c.args.spacing.now c.args.times.now k 16) c.loop-b.next c.loop-b.b 0
       (search rules) c.loop-b.invariant.1),
 )

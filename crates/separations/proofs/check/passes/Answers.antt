@@ -11,9 +11,9 @@ loop-done-init c = refl
 pub pass-times-requires : goal.pass-times-requires
 pass-times-requires c = (
   c.requires,
-  after_moderate c.args.spacing.now c.requires c.loop-done.times c.loop-done.-done (omega arith) c.loop-done.invariant,
+  after_moderate c.args.spacing.now c.requires c.loop-done.times c.loop-done._done (omega arith) c.loop-done.invariant,
 )
 
 pub loop-done-preserved : goal.loop-done-preserved
 loop-done-preserved c =
-    c.pass-times.ensures ∙ after_more c.args.spacing.now c.loop-done.times c.loop-done.-done c.loop-done.invariant
+    c.pass-times.ensures ∙ after_more c.args.spacing.now c.loop-done.times c.loop-done._done c.loop-done.invariant

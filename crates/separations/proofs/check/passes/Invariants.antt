@@ -4,4 +4,4 @@ use Rattle.separations.specs.Check.{times_after}
 use Rattle.separations.proofs.check.passes.Given as goal
 
 abbrev pub invariant-loop-done : goal.invariant-loop-done
-invariant-loop-done l = l.times ≡ times_after l.spacing l.-done
+invariant-loop-done l = l.times ≡ times_after l.spacing l._done

@@ -8,5 +8,5 @@ loop-a-init c = latest_none c.args.spacing.now c.args.times.now c.args.b
 
 pub loop-a-preserved : goal.loop-a-preserved
 loop-a-preserved c =
-    c.raise-after-time.ensures ∙
+    c.raise_after-time.ensures ∙
     latest_more c.args.spacing.now c.args.times.now c.args.b c.loop-a.a c.loop-a.time c.loop-a.invariant

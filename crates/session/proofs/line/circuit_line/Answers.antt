@@ -7,7 +7,7 @@ use Rattle.session.proofs.line.circuit_line.Goals as goal
 pub returns-in-Ok : goal.returns-in-Ok
 returns-in-Ok c = record {
   outcome =
-      subst (Tells c.args.bytes.now) (sym c.accepted-line.ensures) (plain c.in-Ok.circuit, c.in-Ok.ensures.outcome, refl);
+      subst (Tells c.args.bytes.now) (sym c.accepted_line.ensures) (plain c.in-Ok.circuit, c.in-Ok.ensures.outcome, refl);
   one = c.in-Ok.ensures.one;
   layout = c.in-Ok.ensures.layout;
 }

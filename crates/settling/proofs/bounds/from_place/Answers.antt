@@ -11,6 +11,6 @@ use Rattle.settling.proofs.bounds.from_place.Goals as goal
 pub delay-requires : goal.delay-requires
 delay-requires c =
     let held = get_or c.args.held.now c.args.place None in
-    let told = c.unless-held.ensures ∙ ap (λ (row : Row). unless_held held (bounds_from row c.args.i)) c.pin_row.ensures in
+    let told = c.unless_held.ensures ∙ ap (λ (row : Row). unless_held held (bounds_from row c.args.i)) c.pin_row.ensures in
     subst (AtMost (65535 * 255)) (sym told)
     (room c.args.rows.now (plain_gate c.args.gate.now) c.requires.0 c.requires.1.0 held c.args.i c.args.place (omega (arith, c.args.gate.now.pins.ok.0)))

@@ -5,8 +5,8 @@ use Rattle.settling.proofs.bounds.gate_bounds.Goals as goal
 
 pub loop-i-preserved : goal.loop-i-preserved
 loop-i-preserved c = (
-  length-set c.loop-i.bounds c.loop-i.i c.bounds-from.result ∙ c.loop-i.invariant.0,
-  listed_more _ c.loop-i.bounds c.loop-i.i c.bounds-from.result (omega arith) c.bounds-from.ensures c.loop-i.invariant.1,
+  length-set c.loop-i.bounds c.loop-i.i c.bounds_from.result ∙ c.loop-i.invariant.0,
+  listed_more _ c.loop-i.bounds c.loop-i.i c.bounds_from.result (omega arith) c.bounds_from.ensures c.loop-i.invariant.1,
 )
 
 pub returns : goal.returns

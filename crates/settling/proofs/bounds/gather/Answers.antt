@@ -7,4 +7,4 @@ use Rattle.settling.proofs.bounds.gather.Goals as goal
 pub loop-place-preserved : goal.loop-place-preserved
 loop-place-preserved c =
     gathered_more (from_place c.args.rows.now c.args.i (plain_gate c.args.gate.now) c.args.held.now) c.loop-place.place _ _ _
-    c.join-all.ensures c.from-place.ensures c.loop-place.invariant
+    c.join-all.ensures c.from_place.ensures c.loop-place.invariant

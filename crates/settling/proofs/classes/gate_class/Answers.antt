@@ -9,5 +9,5 @@ use Rattle.settling.proofs.classes.gate_class.Goals as goal
 pub returns : goal.returns
 returns c =
     let g = plain_gate c.args.gate.now in
-    evaluated_front class_ops g.function c.pin-classes-classes.result (pin_classes c.args.rows.now g c.args.held.now) (length g.pins) c.len.result c.evaluate-classes.result
-    (c.len.ensures ∙ c.args.gate.now.pins.ok.0) c.pin-classes-classes.ensures c.evaluate-classes.ensures.value
+    evaluated_front class_ops g.function c.pin_classes-classes.result (pin_classes c.args.rows.now g c.args.held.now) (length g.pins) c.len.result c.evaluate_classes.result
+    (c.len.ensures ∙ c.args.gate.now.pins.ok.0) c.pin_classes-classes.ensures c.evaluate_classes.ensures.value

@@ -9,6 +9,6 @@ pub loop-place-preserved : goal.loop-place-preserved
 loop-place-preserved c =
     let g = plain_gate c.args.gate.now in
     let few = pins_few g.function (length g.pins) (good_gate (length c.args.rows.now) g c.requires).pin_count in (
-      length-set c.loop-place.classes c.loop-place.place c.class-at.result ∙ c.loop-place.invariant.0,
-      listed_more _ c.loop-place.classes c.loop-place.place c.class-at.result (omega (arith, few.1, c.args.gate.now.pins.ok.0)) c.class-at.ensures c.loop-place.invariant.1,
+      length-set c.loop-place.classes c.loop-place.place c.class_at.result ∙ c.loop-place.invariant.0,
+      listed_more _ c.loop-place.classes c.loop-place.place c.class_at.result (omega (arith, few.1, c.args.gate.now.pins.ok.0)) c.class_at.ensures c.loop-place.invariant.1,
     )

@@ -5,8 +5,8 @@ use Rattle.settling.proofs.holding.held_pins.Goals as goal
 
 pub loop-p-preserved : goal.loop-p-preserved
 loop-p-preserved g c = (
-  length-set c.loop-p.held c.loop-p.p c.held-pin.result ∙ c.loop-p.invariant.0,
-  listed_more _ c.loop-p.held c.loop-p.p c.held-pin.result (omega arith) c.held-pin.ensures c.loop-p.invariant.1,
+  length-set c.loop-p.held c.loop-p.p c.held_pin.result ∙ c.loop-p.invariant.0,
+  listed_more _ c.loop-p.held c.loop-p.p c.held_pin.result (omega arith) c.held_pin.ensures c.loop-p.invariant.1,
 )
 
 pub returns : goal.returns

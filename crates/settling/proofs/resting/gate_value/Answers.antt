@@ -8,5 +8,5 @@ use Rattle.settling.proofs.resting.gate_value.Goals as goal
 pub returns : goal.returns
 returns c =
     let g = plain_gate c.args.gate.now in
-    evaluated_front three_ops g.function c.pin-values-pins.result _ (length g.pins) c.len.result c.evaluate-values.result
-    (c.len.ensures ∙ c.args.gate.now.pins.ok.0) c.pin-values-pins.ensures c.evaluate-values.ensures.value
+    evaluated_front three_ops g.function c.pin_values-pins.result _ (length g.pins) c.len.result c.evaluate_values.result
+    (c.len.ensures ∙ c.args.gate.now.pins.ok.0) c.pin_values-pins.ensures c.evaluate_values.ensures.value

@@ -11,8 +11,8 @@ pub loop-place-preserved : goal.loop-place-preserved
 loop-place-preserved c =
     let g = plain_gate c.args.gate.now in
     let few = pins_few g.function (length g.pins) (good_gate (length c.args.values.now) g c.requires).pin_count in (
-      length-set c.loop-place.pins c.loop-place.place c.pin-value.result ∙ c.loop-place.invariant.0,
-      listed_more _ c.loop-place.pins c.loop-place.place c.pin-value.result (omega (arith, few.1, c.args.gate.now.pins.ok.0)) c.pin-value.ensures c.loop-place.invariant.1,
+      length-set c.loop-place.pins c.loop-place.place c.pin_value.result ∙ c.loop-place.invariant.0,
+      listed_more _ c.loop-place.pins c.loop-place.place c.pin_value.result (omega (arith, few.1, c.args.gate.now.pins.ok.0)) c.pin_value.ensures c.loop-place.invariant.1,
     )
 
 pub returns : goal.returns

@@ -6,4 +6,4 @@ use Rattle.settling.proofs.resting.rest.Goals as goal
 pub returns : goal.returns
 returns c =
     let t = c.args.tables.now in
-    record { value = c.values-of.ensures; holds = rest_true (circuit_of t) (classes_of t) t.circuit.valid c.args.net c.values-of.result c.values-of.ensures }
+    record { value = c.values_of.ensures; holds = rest_true (circuit_of t) (classes_of t) t.circuit.valid c.args.net c.values_of.result c.values_of.ensures }

@@ -6,14 +6,14 @@ use Rattle.settling.specs.Resting.{input_letter}
 use Rattle.settling.proofs.Values.{value_there, values_more}
 use Rattle.settling.proofs.resting.value_of.Goals as goal
 
-pub value-for-requires : goal.value-for-requires
-value-for-requires c = (omega (arith, c.requires), length-take-le _ c.loop-n.values (omega (arith, c.loop-n.invariant.0, c.ranges.net)) ∙ omega arith)
+pub value_for-requires : goal.value_for-requires
+value_for-requires c = (omega (arith, c.requires), length-take-le _ c.loop-n.values (omega (arith, c.loop-n.invariant.0, c.ranges.net)) ∙ omega arith)
 
 pub loop-n-preserved : goal.loop-n-preserved
 loop-n-preserved c = (
-  length-set c.loop-n.values c.loop-n.n c.value-for.result ∙ c.loop-n.invariant.0,
-  values_more (input_letter c.args.letter c.args.classes.now) (plain c.args.circuit.now) c.loop-n.values c.loop-n.n c.value-for.result
-      (omega (arith, c.loop-n.invariant.0, c.ranges.net)) c.value-for.ensures c.loop-n.invariant.1,
+  length-set c.loop-n.values c.loop-n.n c.value_for.result ∙ c.loop-n.invariant.0,
+  values_more (input_letter c.args.letter c.args.classes.now) (plain c.args.circuit.now) c.loop-n.values c.loop-n.n c.value_for.result
+      (omega (arith, c.loop-n.invariant.0, c.ranges.net)) c.value_for.ensures c.loop-n.invariant.1,
 )
 
 pub returns : goal.returns

@@ -7,5 +7,5 @@ use Rattle.settling.proofs.rows.row_for_gate.Goals as goal
 pub returns : goal.returns
 returns g c =
     row_from (asked g.S.OrderSource c.args.source.now c.args.circuit.now) c.args.rows.now (plain_gate c.args.gate.now)
-    c.held-pins-held.result c.gate-class-class.result c.gate-bounds-bounds.result
-    c.held-pins-held.ensures c.gate-class-class.ensures c.gate-bounds-bounds.ensures
+    c.held_pins-held.result c.gate_class-class.result c.gate_bounds-bounds.result
+    c.held_pins-held.ensures c.gate_class-class.ensures c.gate_bounds-bounds.ensures

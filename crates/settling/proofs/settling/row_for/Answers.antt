@@ -9,22 +9,22 @@ use Rattle.settling.specs.Tables.{circuit_of, classes_of, rows_of}
 use Rattle.settling.proofs.Parts.{row_high, row_low}
 use Rattle.settling.proofs.settling.row_for.Goals as goal
 
-pub row-for-gate-requires : goal.row-for-gate-requires
-row-for-gate-requires g c =
+pub row_for_gate-requires : goal.row_for_gate-requires
+row_for_gate-requires g c =
     let rows = rows_of c.args.tables.now in
     let enough : c.args.n ≤ length rows = omega (arith, c.requires.0, c.args.tables.now.rows.ok.0, c.args.tables.now.covered) in
-    let count = ap length c.rows-below.ensures ∙ length-take-le c.args.n rows enough in
-    (subst (λ (m : ℕ). T (valid_gate m (plain_gate c.in-Some.gate.now))) (sym count) c.in-Some.ensures.valid, subst Small (sym c.rows-below.ensures) c.requires.1)
+    let count = ap length c.rows_below.ensures ∙ length-take-le c.args.n rows enough in
+    (subst (λ (m : ℕ). T (valid_gate m (plain_gate c.in-Some.gate.now))) (sym count) c.in-Some.ensures.valid, subst Small (sym c.rows_below.ensures) c.requires.1)
 
 pub returns-in-None : goal.returns-in-None
 returns-in-None g c =
     let t = c.args.tables.now in
-    row_low (asked g.S.OrderSource c.args.source.now t.circuit) (circuit_of t) (classes_of t) (take c.args.n (rows_of t)) c.args.n c.row-for-input.result
-    (undriven (circuit_of t) c.args.n c.in-None.ensures c.requires.0) c.row-for-input.ensures
+    row_low (asked g.S.OrderSource c.args.source.now t.circuit) (circuit_of t) (classes_of t) (take c.args.n (rows_of t)) c.args.n c.row_for_input.result
+    (undriven (circuit_of t) c.args.n c.in-None.ensures c.requires.0) c.row_for_input.ensures
 
 pub returns-in-Some : goal.returns-in-Some
 returns-in-Some g c =
     let t = c.args.tables.now in
     let gate = c.in-Some.ensures in
-    row_high (asked g.S.OrderSource c.args.source.now t.circuit) (circuit_of t) (classes_of t) (take c.args.n (rows_of t)) c.args.n c.row-for-gate.result
-    c.rows-below.result.now (plain_gate c.in-Some.gate.now) gate.past_inputs c.rows-below.ensures gate.same c.row-for-gate.ensures
+    row_high (asked g.S.OrderSource c.args.source.now t.circuit) (circuit_of t) (classes_of t) (take c.args.n (rows_of t)) c.args.n c.row_for_gate.result
+    c.rows_below.result.now (plain_gate c.in-Some.gate.now) gate.past_inputs c.rows_below.ensures gate.same c.row_for_gate.ensures

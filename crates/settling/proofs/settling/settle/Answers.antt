@@ -10,8 +10,8 @@ use Rattle.settling.proofs.Laws.{settled_told}
 use Rattle.settling.proofs.Steps.{settled_all, settled_more}
 use Rattle.settling.proofs.settling.settle.Goals as goal
 
-pub settle-net-requires : goal.settle-net-requires
-settle-net-requires g c =
+pub settle_net-requires : goal.settle_net-requires
+settle_net-requires g c =
     let start = c.args.tables.now in
     let within : c.loop-n.n < net_count (circuit_of start) = omega (arith, c.len-n-end.ensures, start.covered) in
     let same = ap (λ (x : Circuit). net_count (plain x)) c.loop-n.invariant.1 in (
@@ -23,10 +23,10 @@ pub loop-n-preserved : goal.loop-n-preserved
 loop-n-preserved g c =
     let start = c.args.tables.now in
     let tables = c.loop-n.tables in
-    let done = c.settle-net.ensures in
+    let done = c.settle_net.ensures in
     let same = ap (λ (x : Circuit). net_count (plain x)) c.loop-n.invariant.1 in
     let within : c.loop-n.n < length (rows_of tables) = omega (arith, c.len-n-end.ensures, start.covered, tables.covered, tables.rows.ok.0) in (
-      settled_more g.S.OrderSource c.args.source.now tables.circuit start.circuit (classes_of tables) (classes_of start) (rows_of tables) (rows_of c.settle-net.new.tables) c.loop-n.n
+      settled_more g.S.OrderSource c.args.source.now tables.circuit start.circuit (classes_of tables) (classes_of start) (rows_of tables) (rows_of c.settle_net.new.tables) c.loop-n.n
           within c.loop-n.invariant.1 c.loop-n.invariant.2 c.loop-n.invariant.0 done.rows,
       done.circuit ∙ c.loop-n.invariant.1,
       done.classes ∙ c.loop-n.invariant.2,

@@ -5,5 +5,5 @@ use Rattle.spacinglines.proofs.line.three_words.Goals as goal
 
 pub returns : goal.returns
 returns c =
-    three_words (words c.args.text.now) (words c.in-Some.rest.now) (words c.in-Some-next-word.end.now) (words c.in-Some-next-word-2.left.now) _ _ _
-    c.in-Some.ensures.0 c.in-Some-next-word.ensures.0 c.in-Some-next-word-2.ensures.0 c.in-None.ensures
+    three_words (words c.args.text.now) (words c.in-Some.rest.now) (words c.in-Some-next_word.end.now) (words c.in-Some-next_word-2.left.now) _ _ _
+    c.in-Some.ensures.0 c.in-Some-next_word.ensures.0 c.in-Some-next_word-2.ensures.0 c.in-None.ensures

@@ -9,7 +9,7 @@ use Rattle.waveform.proofs.evaluation.evaluate.Goals as goal
 
 pub loop-pin-preserved : goal.loop-pin-preserved
 loop-pin-preserved g c =
-    fold_more (joined g.V.SwitchingAlgebra.ops c.args.function) _ _ _ _ _ _ c.loop-pin-test.true c.pin-item.is c.fold-in-value.ensures c.loop-pin.invariant
+    fold_more (joined g.V.SwitchingAlgebra.ops c.args.function) _ _ _ _ _ _ c.loop-pin-test.true c.pin-item.is c.fold_in-value.ensures c.loop-pin.invariant
 
 pub returns : goal.returns
 returns g c =

@@ -10,12 +10,12 @@ next_pin n xs i h = at_drop_more (all_below n) xs i 0 h
 
 pub loop-pin-preserved : goal.loop-pin-preserved
 loop-pin-preserved c =
-    let low = sym c.if-not-is-below.ensures in
+    let low = sym c.if-not-is_below.ensures in
     c.loop-pin.invariant ∙ rw low at (next_pin c.args.limit c.args.pins.now c.loop-pin.pin-index c.loop-pin-test.true)
 
-pub returns-then-not-is-below : goal.returns-then-not-is-below
-returns-then-not-is-below c =
-    let high = sym c.if-not-is-below.ensures in
+pub returns-then-not-is_below : goal.returns-then-not-is_below
+returns-then-not-is_below c =
+    let high = sym c.if-not-is_below.ensures in
     sym (c.loop-pin.invariant ∙ rw high at (next_pin c.args.limit c.args.pins.now c.loop-pin.pin-index c.loop-pin-test.true))
 
 pub returns : goal.returns

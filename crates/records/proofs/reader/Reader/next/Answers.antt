@@ -13,7 +13,7 @@ returns-then-lacks c = record {
 
 pub returns-then-lacks-2 : goal.returns-then-lacks-2
 returns-then-lacks-2 c = record {
-  short = cut_payload c.args.self.now.at c.args.self.now.bytes.now c.two-bytes-length.result c.two-bytes-length.ensures.value (false-ltb _ _ c.if-lacks.ensures) (true-ltb _ _ c.if-lacks-2.ensures);
+  short = cut_payload c.args.self.now.at c.args.self.now.bytes.now c.two_bytes-length.result c.two_bytes-length.ensures.value (false-ltb _ _ c.if-lacks.ensures) (true-ltb _ _ c.if-lacks-2.ensures);
   fault = search rules;
   same = search rules;
 }
@@ -22,8 +22,8 @@ pub returns : goal.returns
 returns c =
     let at = c.args.self.now.at in
     let bs = c.args.self.now.bytes.now in
-    let n = c.two-bytes-length.result in
-    let is = c.two-bytes-length.ensures.value in
+    let n = c.two_bytes-length.result in
+    let is = c.two_bytes-length.ensures.value in
     let some = false-ltb _ _ c.if-lacks.ensures in
     let all = false-ltb _ _ c.if-lacks-2.ensures in
     record {
@@ -33,7 +33,7 @@ returns c =
       payload = payload_at at bs n is some all;
       size = payload_size at bs n is some all;
       moved = ap (λ k. at + 4 + k) (sym (length_at at bs n is));
-      low_length = rw (get_or-drop at bs 0 0, add-zero) c.two-bytes-length.ensures.low;
-      low_kind = rw (get_or-drop at bs 2 0) c.two-bytes-kind.ensures.low;
+      low_length = rw (get_or-drop at bs 0 0, add-zero) c.two_bytes-length.ensures.low;
+      low_kind = rw (get_or-drop at bs 2 0) c.two_bytes-kind.ensures.low;
       same = search rules;
     }

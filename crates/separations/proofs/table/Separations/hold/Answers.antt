@@ -23,45 +23,45 @@ next self table a b s within one put fits =
       put = simp to_z-of_z at put;
     }
 
-pub is-settled-requires : goal.is-settled-requires
-is-settled-requires c =
+pub is_settled-requires : goal.is_settled-requires
+is_settled-requires c =
     next_limited
-    (next c.args.self.now c.with-larger-spacing.result c.args.a c.args.b c.args.s c.in-default.ensures
-    c.if-not-is-formed.ensures c.with-larger-spacing.ensures c.ranges.s)
+    (next c.args.self.now c.with_larger-spacing.result c.args.a c.args.b c.args.s c.in_default.ensures
+    c.if-not-is_formed.ensures c.with_larger-spacing.ensures c.ranges.s)
 
-pub returns-then-not-is-settled : goal.returns-then-not-is-settled
-returns-then-not-is-settled c =
+pub returns-then-not-is_settled : goal.returns-then-not-is_settled
+returns-then-not-is_settled c =
     let n =
-    next c.args.self.now c.with-larger-spacing.result c.args.a c.args.b c.args.s c.in-default.ensures
-    c.if-not-is-formed.ensures c.with-larger-spacing.ensures c.ranges.s in (
+    next c.args.self.now c.with_larger-spacing.result c.args.a c.args.b c.args.s c.in_default.ensures
+    c.if-not-is_formed.ensures c.with_larger-spacing.ensures c.ranges.s in (
       refl,
       (
         n.first,
         n.second,
         refl,
         formed_is (separation c.args.a c.args.b c.args.s) n.one,
-        next_refused n (λ e. false≢true (c.if-not-is-settled.ensures.1 e)),
+        next_refused n (λ e. false≢true (c.if-not-is_settled.ensures.1 e)),
       ),
     )
 
-pub invariant-of-self : goal.invariant-of-self
-invariant-of-self c =
+pub invariant_of-self : goal.invariant_of-self
+invariant_of-self c =
     let n =
-    next c.args.self.now c.with-larger-spacing.result c.args.a c.args.b c.args.s c.in-default.ensures
-    c.if-not-is-formed.ensures c.with-larger-spacing.ensures c.ranges.s in
-    (next_full n, (next_formed n, (c.if-not-is-settled.ensures.0 refl, tt)))
+    next c.args.self.now c.with_larger-spacing.result c.args.a c.args.b c.args.s c.in_default.ensures
+    c.if-not-is_formed.ensures c.with_larger-spacing.ensures c.ranges.s in
+    (next_full n, (next_formed n, (c.if-not-is_settled.ensures.0 refl, tt)))
 
 pub returns : goal.returns
 returns c =
     let n =
-    next c.args.self.now c.with-larger-spacing.result c.args.a c.args.b c.args.s c.in-default.ensures
-    c.if-not-is-formed.ensures c.with-larger-spacing.ensures c.ranges.s in
+    next c.args.self.now c.with_larger-spacing.result c.args.a c.args.b c.args.s c.in_default.ensures
+    c.if-not-is_formed.ensures c.with_larger-spacing.ensures c.ranges.s in
     record {
       first = n.first;
       second = n.second;
       taken = refl;
       formed = formed_is (separation c.args.a c.args.b c.args.s) n.one;
-      times = λ i. pos (time_after c.with-larger-spacing.result 16 i);
-      met = next_met n (c.if-not-is-settled.ensures.0 refl);
+      times = λ i. pos (time_after c.with_larger-spacing.result 16 i);
+      met = next_met n (c.if-not-is_settled.ensures.0 refl);
       larger = next_held n;
     }

@@ -5,13 +5,13 @@ use Rattle.separations.specs.Separations.{Table, MeetsAll, held, is_full, is_for
 use Rattle.separations.proofs.Exact.{met_settles}
 use Rattle.separations.proofs.table.Separations.new.Goals as goal
 
-pub invariant-of-result : goal.invariant-of-result
-invariant-of-result c =
-    let e = c.no-spacing.ensures in
+pub invariant_of-result : goal.invariant_of-result
+invariant_of-result c =
+    let e = c.no_spacing.ensures in
     let met = subst (λ (table : Table). MeetsAll (λ i. pos 0) (held table)) (sym e) tt in (
       ap is_full e,
       (
         ap (λ (table : Table). list_all is_formed (held table)) e,
-        (met_settles c.no-spacing.result (λ i. pos 0) met, tt),
+        (met_settles c.no_spacing.result (λ i. pos 0) met, tt),
       ),
     )
