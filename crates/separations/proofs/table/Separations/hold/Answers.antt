@@ -49,7 +49,7 @@ invariant_of-self c =
     let n =
     next c.args.self.now c.with_larger-spacing.result c.args.a c.args.b c.args.s c.in_default.ensures
     c.if-not-is_formed.ensures c.with_larger-spacing.ensures c.ranges.s in
-    (next_full n, (next_formed n, (c.if-not-is_settled.ensures.0 refl, tt)))
+    record { full = next_full n; formed = next_formed n; settled = c.if-not-is_settled.ensures.0 refl }
 
 pub returns : goal.returns
 returns c =

@@ -8,10 +8,9 @@ use Rattle.separations.proofs.table.Separations.new.Goals as goal
 pub invariant_of-result : goal.invariant_of-result
 invariant_of-result c =
     let e = c.no_spacing.ensures in
-    let met = subst (λ (table : Table). MeetsAll (λ i. pos 0) (held table)) (sym e) tt in (
-      ap is_full e,
-      (
-        ap (λ (table : Table). list_all is_formed (held table)) e,
-        (met_settles c.no_spacing.result (λ i. pos 0) met, tt),
-      ),
-    )
+    let met = subst (λ (table : Table). MeetsAll (λ i. pos 0) (held table)) (sym e) tt in
+    record {
+      full = ap is_full e;
+      formed = ap (λ (table : Table). list_all is_formed (held table)) e;
+      settled = met_settles c.no_spacing.result (λ i. pos 0) met;
+    }
