@@ -9,7 +9,7 @@ use functions::Function;
 
 // The value that leaves the other pins as they are.
 fn unit<V: SwitchingAlgebra>(function: Function) -> V
-    ensures { result ≡ unit_of ops function }
+    ensures { result ≡ unit_of V.ops function }
 {
     match function {
         Function::Buf | Function::Not | Function::And | Function::Nand => V::one(),
@@ -19,7 +19,7 @@ fn unit<V: SwitchingAlgebra>(function: Function) -> V
 
 // One more pin.
 fn fold_in<V: SwitchingAlgebra>(function: Function, value: V, pin: V) -> V
-    ensures { result ≡ joined ops function value pin }
+    ensures { result ≡ joined V.ops function value pin }
 {
     match function {
         Function::Buf | Function::Not | Function::And | Function::Nand => value.and(pin),
@@ -30,7 +30,7 @@ fn fold_in<V: SwitchingAlgebra>(function: Function, value: V, pin: V) -> V
 
 // The inversion after the last pin, for a function that has one.
 fn finish<V: SwitchingAlgebra>(function: Function, value: V) -> V
-    ensures { result ≡ finished ops function value }
+    ensures { result ≡ finished V.ops function value }
 {
     match function {
         Function::Buf | Function::And | Function::Or | Function::Xor => value,
@@ -41,8 +41,8 @@ fn finish<V: SwitchingAlgebra>(function: Function, value: V) -> V
 // The value of a gate function on the values of its pins, for any number of pins: the pins folded by the function's
 // operation. It contains every output of the function for the waveforms that the pins stand for.
 pub fn evaluate<V: SwitchingAlgebra>(function: Function, pins: &[V]) -> V
-    ensures fold { result ≡ evaluated ops function pins.now }
-    ensures contains { Contains stands (described function).truth pins.now result }
+    ensures fold { result ≡ evaluated V.ops function pins.now }
+    ensures contains { Contains V.stands (described function).truth pins.now result }
 {
     let mut value = unit(function);
     for pin in pins {

@@ -15,14 +15,14 @@ join-requires c =
       λ k l. omega (arith, c.requires.1.0, good.lower k (omega (arith, ap length same, l)), ap (λ (xs : List ℕ). get_or xs k 0) same),
     )
 
-pub overflow-add-result : goal.overflow-add-result
-overflow-add-result c =
+pub overflow_add-result : goal.overflow_add-result
+overflow_add-result c =
     let sums = gate_sums c.args.rows.now c.args.ties.now c.args.row.now (plain_gate c.args.gate.now) c.args.n c.requires.0 c.requires.1.1
     _ c.as_slice.ensures.value c.join.result c.join.ensures c.in-Some.all c.in-Some.is in
     omega (arith, sums.low, c.from.ensures, c.ranges.n)
 
-pub overflow-add-result-2 : goal.overflow-add-result-2
-overflow-add-result-2 c =
+pub overflow_add-result-2 : goal.overflow_add-result-2
+overflow_add-result-2 c =
     let sums = gate_sums c.args.rows.now c.args.ties.now c.args.row.now (plain_gate c.args.gate.now) c.args.n c.requires.0 c.requires.1.1
     _ c.as_slice.ensures.value c.join.result c.join.ensures c.in-Some.all c.in-Some.is in
     omega (arith, sums.high, c.from-2.ensures, c.ranges.n)
