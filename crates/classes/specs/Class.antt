@@ -1,6 +1,6 @@
 -- The thirteen classes of waveforms. One definition gives each its code and its three letters, and the letters alone say
 -- which waveforms it holds. Assumes nothing.
-use Rattle.std.specs.Prelude.{◌≡◌, ℕ, Bool, true, false, not, ◌&&◌, T, List, [], ◌∷◌, ◌≢◌}
+use Rattle.std.specs.Prelude.{ℕ, Bool, true, false, not, ◌&&◌, T, List, [], ◌∷◌, ◌≢◌}
 use Rattle.signals.specs.Waveform.{Waveform, Rising, final}
 use Rattle.classes.specs.declared.three.Three.{Three}
 use Rattle.classes.specs.declared.three.Three.TheVariants.{Zero, One, Unknown}

@@ -1,5 +1,5 @@
 -- The eight gate functions. One definition gives each its code, name, truth, control value and pin counts. Assumes nothing.
-use Rattle.std.specs.Prelude.{◌≡◌, ℕ, Bool, true, false, not, ◌&&◌, ◌||◌, List, [], ◌∷◌, Some, None, codes, Option, ◌≢◌, nat_le}
+use Rattle.std.specs.Prelude.{ℕ, Bool, true, false, not, ◌&&◌, ◌||◌, List, [], ◌∷◌, Some, None, codes, Option, ◌≢◌, nat_le}
 use Rattle.functions.specs.declared.function.Function.{Function}
 use Rattle.functions.specs.declared.function.Function.TheVariants.{Buf, Not, And, Nand, Or, Nor, Xor, Xnor}
 

@@ -1,5 +1,5 @@
 -- The laws of the same-input source. Assumes nothing.
-use Rattle.std.specs.Prelude.{◌≡◌, ℕ, true, false, ◌&&◌, ◌||◌, List, is_some, Some, Option, ◌==◌}
+use Rattle.std.specs.Prelude.{◌≡◌, ℕ, true, ◌&&◌, ◌||◌, List, is_some, Some, Option, ◌==◌}
 use Rattle.std.proofs.Common.{sym, ap, ◌∙◌, subst, ⊎_elim}
 use Rattle.std.proofs.lemmas.Bool.{and_parts, or_cases, or_left, or_right, not-true, eqb-true, false≢true}
 use Rattle.netlist.specs.Circuit.{PlainCircuit}
