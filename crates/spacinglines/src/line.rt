@@ -1,6 +1,7 @@
 // Reading a line as two inputs and a spacing.
-ghost use Rattle.std.specs.Prelude.{ℕ, List, MatchOption};
-ghost use Rattle.spacinglines.specs.Line.{Reads, Words};
+ghost use Rattle.std.specs.Prelude.{◌≡◌, ◌≢◌, ℕ, List, [], ◌∷◌, MatchOption};
+ghost use Rattle.spacinglines.specs.Line.{Reads};
+ghost use Rattle.words.specs.Words.{words};
 
 use crate::fault::LineFault;
 use words::next_word;
@@ -15,7 +16,7 @@ pub struct Line {
 
 // The three words of a line, or none if it has more or fewer.
 fn three_words(text: &str) -> Option<(&str, &str, &str)>
-    ensures { MatchOption result ((x y z : List ℕ) → Words text.now x y z → ⊥) (λ p. Words text.now p.0.now p.1.now p.2.now) }
+    ensures { MatchOption result ((x y z : List ℕ) → words text.now ≢ x ∷ y ∷ z ∷ []) (λ p. words text.now ≡ p.0.now ∷ p.1.now ∷ p.2.now ∷ []) }
 {
     let Some((first, rest)) = next_word(text) else {
         return None;
