@@ -7,6 +7,7 @@ pub mod Spaced
 pub mod Chain
 pub mod Stem
 pub mod TieTable
+-- Lemmas by which the sources and layers show their laws; nothing in them needs to be believed.
 pub mod ChainLaws
 pub mod Below
 pub mod Reading

@@ -1,6 +1,6 @@
 -- Order sources: what a source says of two nets, what it holds of the inputs, and the three laws it keeps. Assumes nothing.
 use Rattle.std.specs.Prelude.{◌≡◌, ℕ, Bool, true, T, List, slice_index_or}
-use Rattle.std.specs.List.{AllByRecursion as All}
+use Rattle.std.specs.List.{AllByRecursion}
 use Rattle.signals.specs.Waveform.{Waveform}
 use Rattle.classes.specs.declared.class.Class.{Class}
 use Rattle.classes.specs.declared.class.Class.TheVariants.{C000}
@@ -17,7 +17,7 @@ Meeting waves x = Separated (waves x.a) (waves x.b) x.s
 
 -- they meet every separation of the list
 abbrev pub MetBy : (ℕ → Waveform) → List Separation → Type 0
-MetBy waves seps = All (Meeting waves) seps
+MetBy waves seps = AllByRecursion (Meeting waves) seps
 
 -- the run meets the separations; an input that the circuit lacks never flips, so it meets any
 abbrev pub Met : PlainCircuit → Run → List Separation → Type 0

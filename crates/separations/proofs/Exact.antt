@@ -5,7 +5,7 @@ use Rattle.std.proofs.lemmas.List.{length-set, get_or_past}
 use Rattle.std.proofs.lemmas.Int.{ints}
 use Rattle.std.proofs.lemmas.Bool.{and_parts, and_from, eqb-true, eq-eqb, cases_lt, ltb-true, or_cases}
 use Rattle.std.proofs.lemmas.Bool.Decides.{nat_tests}
-use Rattle.std.specs.List.{list_all, AllByRecursion as All}
+use Rattle.std.specs.List.{list_all, AllByRecursion}
 use Rattle.separations.specs.Separations.{Separation, separation, Meets, MeetsAll, Contradictory, WellFormed, Table, spacing_at, spacing_in, spacing_of, larger_than, placed, with_larger, held, is_full, is_formed}
 use Rattle.separations.specs.Check.{whole, Limited, times_after}
 use Rattle.separations.proofs.Passes.{time_after, whole_is}
@@ -14,11 +14,11 @@ use Rattle.separations.proofs.Complete.{complete, sound}
 use Rattle.separations.proofs.Lists.{table_all, table_at, table_put, table_in, put_all, put_both}
 
 -- each element passes the test
-pub pass_all : {X : Type 0} (p : X → Bool) (xs : List X) → list_all p xs ≡ true → All (λ x. p x ≡ true) xs
+pub pass_all : {X : Type 0} (p : X → Bool) (xs : List X) → list_all p xs ≡ true → AllByRecursion (λ x. p x ≡ true) xs
 pass_all p [] e = tt
 pass_all p (x ∷ xs) e = let both = and_parts (p x) (list_all p xs) e in (both.0, pass_all p xs both.1)
 
-pub all_passes : {X : Type 0} (p : X → Bool) (xs : List X) → All (λ x. p x ≡ true) xs → list_all p xs ≡ true
+pub all_passes : {X : Type 0} (p : X → Bool) (xs : List X) → AllByRecursion (λ x. p x ≡ true) xs → list_all p xs ≡ true
 all_passes p [] h = refl
 all_passes p (x ∷ xs) h = and_from (p x) (list_all p xs) h.0 (all_passes p xs h.1)
 
@@ -89,7 +89,7 @@ module _ (table : Table) (full : is_full table ≡ true) where
   -- what holds of each place holds of each separation of the list
   pub held_all :
       (P : Separation → Type 0) →
-      ((a b : ℕ) (s : ℤ) → a < 16 → b < 16 → spacing_at table a b ≡ Some s → P (separation a b s)) → All P (held table)
+      ((a b : ℕ) (s : ℤ) → a < 16 → b < 16 → spacing_at table a b ≡ Some s → P (separation a b s)) → AllByRecursion P (held table)
   held_all P h =
       let long = full_rows in
       table_all P 0 table
@@ -105,7 +105,7 @@ module _ (table : Table) (full : is_full table ≡ true) where
 
 -- what holds of each separation of the list holds of each place
 pub held_at :
-    (P : Separation → Type 0) (table : Table) → All P (held table) → (a b : ℕ) (s : ℤ) → spacing_at table a b ≡ Some s →
+    (P : Separation → Type 0) (table : Table) → AllByRecursion P (held table) → (a b : ℕ) (s : ℤ) → spacing_at table a b ≡ Some s →
     P (separation a b s)
 held_at P table h a b s e = table_at P 0 table h a a b s (omega arith) e
 

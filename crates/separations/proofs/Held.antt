@@ -2,7 +2,7 @@
 use Rattle.std.proofs.Common.{◌≡◌, ℕ, ◌≤◌, true, List, ℤ, pos, ◌≤ℤ◌, Some, arith}
 use Rattle.std.proofs.ByRecursion.{All-weaker}
 use Rattle.std.proofs.lemmas.Int.{ints}
-use Rattle.std.specs.List.{AllByRecursion as All}
+use Rattle.std.specs.List.{AllByRecursion}
 use Rattle.separations.specs.Separations.{Separation, separation, Meets, MeetsAll, WellFormed, spacing_in, with_larger, is_formed}
 use Rattle.separations.specs.Holding.{held_by}
 use Rattle.separations.specs.declared.table.Separations.{Separations}
@@ -15,13 +15,13 @@ pub held_met : (x : Separations) → (times : ℕ → ℕ) × MeetsAll (λ i. po
 held_met x = (time_after x.spacing 16, settled_meets x.spacing x.full x.settled)
 
 -- each separation that is held is well formed
-pub held_formed : (x : Separations) → All (λ y. WellFormed y.a y.b y.s) (held_by x)
+pub held_formed : (x : Separations) → AllByRecursion (λ y. WellFormed y.a y.b y.s) (held_by x)
 held_formed x =
     All-weaker (λ y. is_formed y ≡ true) (λ y. WellFormed y.a y.b y.s) formed_is (held_by x)
     (pass_all is_formed (held_by x) x.formed)
 
 -- each is between inputs of numbers up to 15
-pub held_inputs : (x : Separations) → All (λ y. (y.a ≤ 15) × (y.b ≤ 15)) (held_by x)
+pub held_inputs : (x : Separations) → AllByRecursion (λ y. (y.a ≤ 15) × (y.b ≤ 15)) (held_by x)
 held_inputs x =
     held_all x.spacing x.full (λ y. (y.a ≤ 15) × (y.b ≤ 15)) (λ a b s g h e. (omega arith, omega arith))
 

@@ -3,7 +3,7 @@ use Rattle.std.proofs.Common.{◌≡◌, ℕ, zero, suc, ◌+◌, ◌<◌, Bool,
 use lib.Signed.{lt_z}
 use Rattle.std.proofs.lemmas.Int.{ints}
 use Rattle.std.proofs.lemmas.Bool.Decides.{nat_tests}
-use Rattle.std.specs.List.{AllByRecursion as All}
+use Rattle.std.specs.List.{AllByRecursion}
 use Rattle.separations.specs.Separations.{Separation, separation, Meets, MeetsAll, Table, spacing_in, is_of, precedes, larger, larger_than, placed, with_larger, held_in_row, held_from}
 
 -- no value stands where none does
@@ -14,8 +14,8 @@ module _ (P : Separation → Type 0) where
   -- what holds of each place of a row holds of each separation that is read off it
   row_all :
       (a b : ℕ) (row : List (Option ℤ)) (rest : List Separation) →
-      ((j c : ℕ) (s : ℤ) → b + j ≡ c → j < length row → get_or row j None ≡ Some s → P (separation a c s)) → All P rest →
-      All P (held_in_row a b row rest)
+      ((j c : ℕ) (s : ℤ) → b + j ≡ c → j < length row → get_or row j None ≡ Some s → P (separation a c s)) → AllByRecursion P rest →
+      AllByRecursion P (held_in_row a b row rest)
   row_all a b [] rest h r = r
   row_all a b (None ∷ row) rest h r =
       row_all a (b + 1) row rest (λ j c s p l e. h (suc j) c s (omega arith) (omega arith) e) r
@@ -25,7 +25,7 @@ module _ (P : Separation → Type 0) where
   )
 
   row_at_lem :
-      (a b : ℕ) (row : List (Option ℤ)) (rest : List Separation) → All P (held_in_row a b row rest) →
+      (a b : ℕ) (row : List (Option ℤ)) (rest : List Separation) → AllByRecursion P (held_in_row a b row rest) →
       (j c : ℕ) (s : ℤ) → b + j ≡ c → get_or row j None ≡ Some s → P (separation a c s)
   row_at_lem a b [] rest h j c s p e = none_some s e
   row_at_lem a b (None ∷ row) rest h zero c s p e = none_some s e
@@ -35,7 +35,7 @@ module _ (P : Separation → Type 0) where
       let here : separation a b x ≡ separation a c s = cc in subst P here h.0
   row_at_lem a b (Some x ∷ row) rest h (suc j) c s p e = row_at_lem a (b + 1) row rest h.1 j c s (omega arith) e
 
-  row_rest : (a b : ℕ) (row : List (Option ℤ)) (rest : List Separation) → All P (held_in_row a b row rest) → All P rest
+  row_rest : (a b : ℕ) (row : List (Option ℤ)) (rest : List Separation) → AllByRecursion P (held_in_row a b row rest) → AllByRecursion P rest
   row_rest a b [] rest h = h
   row_rest a b (None ∷ row) rest h = row_rest a (b + 1) row rest h
   row_rest a b (Some s ∷ row) rest h = row_rest a (b + 1) row rest h.1
@@ -44,7 +44,7 @@ module _ (P : Separation → Type 0) where
       (a : ℕ) (table : Table) →
       ((i c b : ℕ) (s : ℤ) → a + i ≡ c → i < length table → b < length (get_or table i []) →
       get_or (get_or table i []) b None ≡ Some s → P (separation c b s)) →
-      All P (held_from a table)
+      AllByRecursion P (held_from a table)
   table_all a [] h = tt
   table_all a (row ∷ rows) h =
       row_all a 0 row (held_from (a + 1) rows)
@@ -55,7 +55,7 @@ module _ (P : Separation → Type 0) where
       (table_all (a + 1) rows (λ i c b s p l m e. h (suc i) c b s (omega arith) (omega arith) m e))
 
   pub table_at :
-      (a : ℕ) (table : Table) → All P (held_from a table) →
+      (a : ℕ) (table : Table) → AllByRecursion P (held_from a table) →
       (i c b : ℕ) (s : ℤ) → a + i ≡ c → get_or (get_or table i []) b None ≡ Some s → P (separation c b s)
   table_at a [] h i c b s p e = none_some s e
   table_at a (row ∷ rows) h zero c b s p e =
@@ -154,14 +154,14 @@ of_pair a b x e = grind (arith, nat_tests)
 
 -- what holds of the separation and of each of the list holds of each with the larger spacing
 pub put_all :
-    (P : Separation → Type 0) (a b : ℕ) (s : ℤ) (xs : List Separation) → P (separation a b s) → All P xs →
-    All P (with_larger a b s xs)
+    (P : Separation → Type 0) (a b : ℕ) (s : ℤ) (xs : List Separation) → P (separation a b s) → AllByRecursion P xs →
+    AllByRecursion P (with_larger a b s xs)
 put_all P a b s [] p h = (p, tt)
 put_all P a b s (x ∷ xs) p h = go (is_of a b x) refl (precedes a b x) (put_all P a b s xs p h.1)
   where
     go :
-        (t : Bool) → is_of a b x ≡ t → (u : Bool) → All P (with_larger a b s xs) →
-        All P (cond t (separation a b (larger s x.s) ∷ xs) (cond u (separation a b s ∷ x ∷ xs) (x ∷ with_larger a b s xs)))
+        (t : Bool) → is_of a b x ≡ t → (u : Bool) → AllByRecursion P (with_larger a b s xs) →
+        AllByRecursion P (cond t (separation a b (larger s x.s) ∷ xs) (cond u (separation a b s ∷ x ∷ xs) (x ∷ with_larger a b s xs)))
     go true e u rest = (
       ⊎_elim (λ (q : larger s x.s ≡ s). rw q p)
           (λ (q : larger s x.s ≡ x.s).
@@ -242,7 +242,7 @@ table_in a (suc i) c b (row ∷ rows) p =
 
 -- what holds of each separation of a list holds of the one that is found at a pair
 pub found :
-    (P : Separation → Type 0) (a b : ℕ) (s : ℤ) (xs : List Separation) → All P xs → spacing_in a b xs ≡ Some s →
+    (P : Separation → Type 0) (a b : ℕ) (s : ℤ) (xs : List Separation) → AllByRecursion P xs → spacing_in a b xs ≡ Some s →
     P (separation a b s)
 found P a b s [] h e = none_some s e
 found P a b s (x ∷ xs) h e = go (is_of a b x) refl (found P a b s xs h.1) e

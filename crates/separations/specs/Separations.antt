@@ -1,6 +1,6 @@
 -- Separations between inputs: what they say, when they contradict one another, how they are held. Assumes nothing.
 use Rattle.std.specs.Prelude.{ℕ, ◌+◌, Bool, cond, not, ◌&&◌, ◌||◌, ◌≢◌, List, [], ◌∷◌, length, ℤ, pos, negsuc, ◌+ℤ◌, ◌≤ℤ◌, Some, None, Option, ◌==◌, int_le, int_lt, nat_eq, nat_lt, slice_index_or, slice_set}
-use Rattle.std.specs.List.{list_all, AllByRecursion as All}
+use Rattle.std.specs.List.{list_all, AllByRecursion}
 
 -- every flip of input b comes at least s ticks after every flip of input a
 pub record Separation : Type 0 where
@@ -18,7 +18,7 @@ Meets times x = (times x.a +ℤ x.s) ≤ℤ times x.b
 
 -- the times meet every separation of the list
 abbrev pub MeetsAll : (ℕ → ℤ) → List Separation → Type 0
-MeetsAll times xs = All (Meets times) xs
+MeetsAll times xs = AllByRecursion (Meets times) xs
 
 -- no times meet all of them
 abbrev pub Contradictory : List Separation → Type 0

@@ -5,6 +5,7 @@ pub mod Ops
 pub mod Delay
 pub mod Examples
 pub mod Control
+-- Lemmas by which the two algebras show their laws; nothing in them needs to be believed.
 pub mod ThreeSound
 pub mod Classes
 pub mod ClassSound
