@@ -2,7 +2,7 @@
 #![tactic(auto)]
 
 mod bounds;
-mod classes;
+mod gate_classes;
 mod holding;
 mod letter;
 mod pins;

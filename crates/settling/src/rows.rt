@@ -6,7 +6,7 @@ ghost use Rattle.settling_theory.specs.Settled.{gate_row, input_row};
 ghost use Rattle.settling.specs.Asked.{Small, asked};
 
 use crate::bounds::gate_bounds;
-use crate::classes::gate_class;
+use crate::gate_classes::gate_class;
 use crate::holding::held_pins;
 use classes::Class;
 use netlist::{Circuit, Gate};

@@ -4,7 +4,7 @@ use Rattle.waveform.specs.Ops.{class_ops}
 use Rattle.netlist.specs.Plain.{plain_gate}
 use Rattle.settling_theory.specs.Settled.{pin_classes}
 use Rattle.settling.proofs.Parts.{evaluated_front}
-use Rattle.settling.proofs.classes.gate_class.Goals as goal
+use Rattle.settling.proofs.gate_classes.gate_class.Goals as goal
 
 pub returns : goal.returns
 returns c =

@@ -3,7 +3,7 @@ use Rattle.std.proofs.Common.{length, ◌∙◌, arith, length-set}
 use Rattle.netlist.specs.Plain.{plain_gate}
 use Rattle.runs.proofs.Circuits.{good_gate, pins_few}
 use Rattle.settling.proofs.Places.{listed_more}
-use Rattle.settling.proofs.classes.pin_classes.Goals as goal
+use Rattle.settling.proofs.gate_classes.pin_classes.Goals as goal
 
 pub loop-place-preserved : goal.loop-place-preserved
 loop-place-preserved c =
