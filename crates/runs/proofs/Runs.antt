@@ -107,7 +107,7 @@ run_with c valid ds within ins rise = (run, record { of = of; delayed = refl; dr
     of : RunOf c run
     of = record {
       delay_count = within.count;
-      net_count_lem = all.count;
+      wave_count = all.count;
       inputs_rise = λ i l. subst Rising (input i l) (rise.rise i l);
       within = within.within;
       obeys = all.obeys;
@@ -160,8 +160,8 @@ same_run c valid run other r o e ins = λ i. record { delays = e i; waves = wave
   where
     waves : other.waves ≡ run.waves
     waves =
-        ext_get_or (constant false) other.waves run.waves (o.net_count_lem ∙ sym r.net_count_lem)
-        (λ m l. waves_agree c valid run other r o e ins (suc m) m (omega arith) (omega (arith, o.net_count_lem)))
+        ext_get_or (constant false) other.waves run.waves (o.wave_count ∙ sym r.wave_count)
+        (λ m l. waves_agree c valid run other r o e ins (suc m) m (omega arith) (omega (arith, o.wave_count)))
 
 -- for given delays and input waveforms a valid circuit has a run, and just one
 pub run_exists : RunExists

@@ -30,7 +30,7 @@ gate_at c k = slice_index_or c.gates k (record { function = Buf; least = 0; grea
 -- a run of the circuit: every delay lies within its gate's bounds, and every gate obeys the gate rule
 pub record RunOf (c : PlainCircuit) (run : Run) : Type 0 where
   pub delay_count : length run.delays ≡ length c.gates
-  pub net_count_lem : length run.waves ≡ net_count c
+  pub wave_count : length run.waves ≡ net_count c
   pub inputs_rise : (i : ℕ) → i < c.inputs → Rising (wave run i)
   pub within : (k : ℕ) → k < length c.gates → ((gate_at c k).least ≤ slice_index run.delays k) × (slice_index run.delays k ≤ (gate_at c k).greatest)
   pub obeys : (k : ℕ) → k < length c.gates →
