@@ -1,11 +1,14 @@
 // The thirteen classes of waveforms, named by their letters: start, middle, end.
-ghost use Rattle.std.specs.Prelude.{◌≡◌, ◌<◌, Some, MatchOption};
-ghost use Rattle.classes.specs.Class.{described, is_clean, is_constant, letters};
+ghost use Rattle.std.specs.Prelude.{◌≡◌, ◌<◌, Some, MatchResult};
+ghost use Rattle.classes.specs.Class.{described, is_clean, is_constant, letters, NoneLettered};
 
+use crate::fault::{UnknownCode, UnknownLetters};
 use crate::three::Three;
 use std::fmt;
+use std::str::FromStr;
 
-#[derive(Clone, Copy, PartialEq, Eq, Debug)]
+// in the order of their codes
+#[derive(Clone, Copy, PartialEq, Eq, Hash, Debug)]
 pub enum Class {
     C000,
     C111,
@@ -23,28 +26,6 @@ pub enum Class {
 }
 
 impl Class {
-    // The class of this code, or none above 12.
-    pub fn from_code(code: u8) -> Option<Class>
-        ensures { MatchOption result (12 < code) (λ c. (described c).code ≡ code) }
-    {
-        match code {
-            0 => Some(Class::C000),
-            1 => Some(Class::C111),
-            2 => Some(Class::C0R1),
-            3 => Some(Class::C1F0),
-            4 => Some(Class::C0X0),
-            5 => Some(Class::C0X1),
-            6 => Some(Class::C1X0),
-            7 => Some(Class::C1X1),
-            8 => Some(Class::C0XX),
-            9 => Some(Class::C1XX),
-            10 => Some(Class::CXX0),
-            11 => Some(Class::CXX1),
-            12 => Some(Class::CXXX),
-            _ => None,
-        }
-    }
-
     pub fn code(self) -> u8
         ensures { result ≡ (described self).code }
     {
@@ -97,19 +78,73 @@ impl Class {
     pub fn is_constant(self) -> bool
         ensures { result ≡ is_constant self }
     {
-        match self {
-            Class::C000 | Class::C111 => true,
-            _ => false,
-        }
+        matches!(self, Class::C000 | Class::C111)
     }
 
     // Whether its waveforms flip exactly once.
     pub fn is_clean(self) -> bool
         ensures { result ≡ is_clean self }
     {
-        match self {
-            Class::C0R1 | Class::C1F0 => true,
-            _ => false,
+        matches!(self, Class::C0R1 | Class::C1F0)
+    }
+}
+
+// The class of this code; a code above 12 is refused.
+impl TryFrom<u8> for Class {
+    type Error = UnknownCode;
+
+    ghost try_from_gives = { λ code r. MatchResult r (λ c. (described c).code ≡ code) (λ e. (e.0 ≡ code) × (12 < code)) };
+
+    fn try_from(code: u8) -> Result<Class, UnknownCode> {
+        match code {
+            0 => Ok(Class::C000),
+            1 => Ok(Class::C111),
+            2 => Ok(Class::C0R1),
+            3 => Ok(Class::C1F0),
+            4 => Ok(Class::C0X0),
+            5 => Ok(Class::C0X1),
+            6 => Ok(Class::C1X0),
+            7 => Ok(Class::C1X1),
+            8 => Ok(Class::C0XX),
+            9 => Ok(Class::C1XX),
+            10 => Ok(Class::CXX0),
+            11 => Ok(Class::CXX1),
+            12 => Ok(Class::CXXX),
+            _ => Err(UnknownCode(code)),
+        }
+    }
+}
+
+impl From<Class> for u8 {
+    ghost from_gives = { λ c n. n ≡ (described c).code };
+
+    fn from(class: Class) -> u8 {
+        class.code()
+    }
+}
+
+// The class of these three letters; a text is refused exactly if no class has it as its letters.
+impl FromStr for Class {
+    type Err = UnknownLetters;
+
+    ghost from_str_gives = { λ text r. MatchResult r (λ c. letters c ≡ text) (λ _. NoneLettered text) };
+
+    fn from_str(text: &str) -> Result<Class, UnknownLetters> {
+        match text {
+            "000" => Ok(Class::C000),
+            "111" => Ok(Class::C111),
+            "0R1" => Ok(Class::C0R1),
+            "1F0" => Ok(Class::C1F0),
+            "0X0" => Ok(Class::C0X0),
+            "0X1" => Ok(Class::C0X1),
+            "1X0" => Ok(Class::C1X0),
+            "1X1" => Ok(Class::C1X1),
+            "0XX" => Ok(Class::C0XX),
+            "1XX" => Ok(Class::C1XX),
+            "XX0" => Ok(Class::CXX0),
+            "XX1" => Ok(Class::CXX1),
+            "XXX" => Ok(Class::CXXX),
+            _ => Err(UnknownLetters),
         }
     }
 }
@@ -118,7 +153,6 @@ impl fmt::Display for Class {
     ghost output = { λ c. Some (letters c) };
 
     fn fmt<W: fmt::Write>(&self, f: &mut fmt::Formatter<W>) -> fmt::Result {
-        let text = self.letters();
-        write!(f, "{text}")
+        f.write_str(self.letters())
     }
 }

@@ -2,7 +2,9 @@
 #![tactic(auto)]
 
 pub mod class;
+pub mod fault;
 pub mod three;
 
 pub use class::Class;
+pub use fault::{UnknownCode, UnknownLetters};
 pub use three::Three;

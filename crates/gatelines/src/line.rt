@@ -6,7 +6,7 @@ ghost use Rattle.words.specs.Words.{words};
 
 use crate::fault::LineFault;
 use classes::Class;
-use names::{from_letters, from_name};
+use functions::Function;
 use waveform::evaluate;
 use words::next_word;
 
@@ -27,7 +27,7 @@ fn read_pins(text: &str, pins: &mut [Class; 8]) -> Option<usize>
     let mut rest = text;
     let mut count = 0usize;
     while let Some((word, after)) = next_word(rest) {
-        let Some(class) = from_letters(word) else {
+        let Ok(class) = word.parse::<Class>() else {
             return None;
         };
         put(pins, count, class);
@@ -45,7 +45,7 @@ pub fn class_of_line(line: &str) -> Result<Class, LineFault>
     let Some((name, rest)) = next_word(line) else {
         return Err(LineFault::UnknownFunction);
     };
-    let Some(function) = from_name(name) else {
+    let Ok(function) = name.parse::<Function>() else {
         return Err(LineFault::UnknownFunction);
     };
     let mut pins = [Class::C000; 8];

@@ -6,5 +6,5 @@ use Rattle.gatelines.proofs.line.class_of_line.Goals as goal
 
 pub returns-then-takes_pins : goal.returns-then-takes_pins
 returns-then-takes_pins c =
-    gate_said c.in-Some-from_name.function c.args.line.now c.in-Some.name.now (words c.in-Some.rest.now) c.read_pins.new.pins c.in-Some-read_pins.count c.evaluate.result
-    c.in-Some.ensures.0 c.in-Some-from_name.ensures c.in-Some-read_pins.ensures (search rules) c.evaluate.ensures.fold
+    gate_said c.in-Ok.function c.args.line.now c.in-Some.name.now (words c.in-Some.rest.now) c.read_pins.new.pins c.in-Some-read_pins.count c.evaluate.result
+    c.in-Some.ensures.0 c.in-Ok.ensures.value c.in-Some-read_pins.ensures (search rules) c.evaluate.ensures.fold
