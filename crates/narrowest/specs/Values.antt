@@ -12,11 +12,12 @@ use Rattle.functions.specs.Function.{all_ones, some_one, odd_ones}
 use Rattle.classes.specs.Three.{described, Stands}
 use Rattle.waveform.specs.Algebra.{disj, evaluated}
 use Rattle.waveform.specs.Ops.{three_ops}
-use Rattle.waveform.specs.Narrowest.{Contains}
-use Rattle.waveform.specs.Contains.{not_not}
+use Rattle.waveform.specs.Narrowest.{Contains, Narrowest}
+use Rattle.waveform.specs.Contains.{not_not, evaluated_contains}
+use Rattle.waveform.specs.ThreeSound.{three_sound}
 use Rattle.waveform.specs.ClassSound.{gives, given}
-use Rattle.narrowest.proofs.Finite.{same_is, at_booleans, at_boolean, at_some, at_some_lem, at_values, at_value}
-use Rattle.narrowest.proofs.Reaching.{Reaching, Next, Inverses, least}
+use Rattle.narrowest.specs.Finite.{same_is, at_booleans, at_boolean, at_some, at_some_lem, at_values, at_value}
+use Rattle.narrowest.specs.Reaching.{Reaching, Next, Inverses, least}
 
 -- the constant of each Boolean that the value allows is among the outputs
 abbrev pub Reached : Three → (Waveform → Type 0) → Type 0
@@ -88,3 +89,7 @@ three_reaching =
 pub three_least : (f : Function) (pins : List Three) (u : Three) → Contains Stands (function.described f).truth pins u → (w : Waveform)
     → Stands (evaluated three_ops f pins) w → Stands u w
 three_least f pins u all = least three_ops Stands three_reaching f pins u all
+
+-- so it gives the narrowest value
+pub three_narrowest : (f : Function) (pins : List Three) → Narrowest Stands (function.described f).truth pins (evaluated three_ops f pins)
+three_narrowest f pins = record { contains = evaluated_contains three_ops Stands three_sound f pins; least = three_least f pins }

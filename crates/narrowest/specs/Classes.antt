@@ -16,13 +16,13 @@ use Rattle.classes.specs.Three as three
 use Rattle.classes.specs.Class.{Middle, low, high, rise, fall, free, moves, described, In}
 use Rattle.waveform.specs.Algebra.{disj, evaluated}
 use Rattle.waveform.specs.Ops.{class_ops}
-use Rattle.waveform.specs.Narrowest.{Contains}
+use Rattle.waveform.specs.Narrowest.{Contains, Narrowest}
 use Rattle.waveform.specs.Classes.{for_each}
-use Rattle.waveform.specs.Contains.{not_not}
-use Rattle.waveform.specs.ClassSound.{gives, given, inverted, swapped}
-use Rattle.narrowest.proofs.Finite.{gives_from, same_is, at_booleans, at_boolean, at_booleans_lem, at_some, at_some_lem, at_classes}
-use Rattle.narrowest.proofs.Reaching.{Reaching, Next, Inverses, least}
-use Rattle.narrowest.proofs.Shapes.{Amount, never, once, often, amount, Shaped, beyond, possible, made, made_shaped, amount_apart, apart_pointwise, apart_shaped}
+use Rattle.waveform.specs.Contains.{not_not, evaluated_contains}
+use Rattle.waveform.specs.ClassSound.{gives, given, inverted, swapped, class_sound}
+use Rattle.narrowest.specs.Finite.{gives_from, same_is, at_booleans, at_boolean, at_booleans_lem, at_some, at_some_lem, at_classes}
+use Rattle.narrowest.specs.Reaching.{Reaching, Next, Inverses, least}
+use Rattle.narrowest.specs.Shapes.{Amount, never, once, often, amount, Shaped, beyond, possible, made, made_shaped, amount_apart, apart_pointwise, apart_shaped}
 
 -- the same amount of flips
 abbrev same_amount : Amount → Amount → Bool
@@ -340,3 +340,7 @@ class_reaching =
 pub class_least : (f : Function) (pins : List Class) (u : Class) → Contains In (function.described f).truth pins u → (w : Waveform)
     → In (evaluated class_ops f pins) w → In u w
 class_least f pins u all = least class_ops In class_reaching f pins u all
+
+-- so it gives the narrowest class
+pub class_narrowest : (f : Function) (pins : List Class) → Narrowest In (function.described f).truth pins (evaluated class_ops f pins)
+class_narrowest f pins = record { contains = evaluated_contains class_ops In class_sound f pins; least = class_least f pins }
