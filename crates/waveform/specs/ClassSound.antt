@@ -1,10 +1,12 @@
 -- The thirteen classes as a switching algebra: each operation contains what the waveforms of its arguments give. Assumes nothing.
 use Rattle.std.specs.Prelude.{◌≡◌, ℕ, suc, ◌≤◌, Bool, true, false, cond, not, ◌&&◌, ◌||◌, T, ◌⊎◌, List, [], ◌∷◌, nat_le, refl}
 use Rattle.std.proofs.Common.{sym, ap, subst, ◌∙◌, inl, inr, arith, leb→le, le→leb}
+use Rattle.std.proofs.Math.Bool.{and-true, not-not}
 use Rattle.std.proofs.lemmas.Bool.{cases_lt}
+use Rattle.std.proofs.Math.Facts.{and_yes, or_yes}
 use Rattle.signals.specs.Waveform.{Waveform, Rising, at, final, flipped_by_all, constant}
 use Rattle.signals.specs.GateRule.{Pointwise}
-use Rattle.signals.proofs.Waveforms.{determined, both_parts, either_part, seen_tick, seen_not}
+use Rattle.signals.proofs.Waveforms.{determined, seen_tick, seen_not}
 use Rattle.signals.proofs.Finals.{finals}
 use Rattle.classes.specs.declared.three.Three.{Three}
 use Rattle.classes.specs.declared.three.Three.TheVariants.{Zero, One, Unknown}
@@ -16,7 +18,7 @@ use Rattle.classes.specs.Class.{In, Middle, low, high, rise, fall, free, describ
 use Rattle.waveform.specs.Algebra.{Sound, inverse}
 use Rattle.waveform.specs.Ops.{neg_three, conj_three, excl_three, free_class, same_class, neg_class, conj_class, excl_class, class_ops}
 use Rattle.waveform.specs.Classes.{same_class_lem, for_each}
-use Rattle.waveform.specs.Contains.{odd_joins, and_true, not_not, same_as_pin}
+use Rattle.waveform.specs.Contains.{odd_joins, same_as_pin}
 use Rattle.waveform.specs.ThreeSound.{neg_allows, conj_allows, excl_allows, allowed_as}
 
 -- a test that passes if the other does
@@ -129,16 +131,16 @@ neg_letters CXXX = (refl, refl, refl)
 
 neg_moves : (m : Middle) (w : Waveform) → T (moves m w) → T (moves (neg_middle m) (inverted w))
 neg_moves low w h = h
-neg_moves high w h = subst (λ (b : Bool). T (b && none w.flips)) (not_not w.first) h
+neg_moves high w h = subst (λ (b : Bool). T (b && none w.flips)) (sym (not-not w.first)) h
 neg_moves rise w h = h
-neg_moves fall w h = subst (λ (b : Bool). T (b && single w.flips)) (not_not w.first) h
+neg_moves fall w h = subst (λ (b : Bool). T (b && single w.flips)) (sym (not-not w.first)) h
 neg_moves free w h = tt
 
 pub in_inverted : (c : Class) (w : Waveform) → In c w → In (neg_class c) (inverted w)
 in_inverted c w h =
     let e = neg_letters c in
-    let s = allowed_as (neg_three (described c).start) (ap not (sym (and_true w.first))) (neg_allows (described c).start w.first h.starts) in
-    let f = allowed_as (neg_three (described c).finish) (final_inverted w.first w.flips ∙ ap not (sym (and_true (final w)))) (neg_allows (described c).finish (final w) h.ends) in
+    let s = allowed_as (neg_three (described c).start) (ap not (sym (and-true w.first))) (neg_allows (described c).start w.first h.starts) in
+    let f = allowed_as (neg_three (described c).finish) (final_inverted w.first w.flips ∙ ap not (sym (and-true (final w)))) (neg_allows (described c).finish (final w) h.ends) in
     record {
       rises = h.rises;
       starts = subst (λ (v : Three). T ((three.described v).allows (not w.first))) e.0 s;
@@ -150,8 +152,8 @@ neg_contains : (c : Class) (w out : Waveform) → In c w → Pointwise inverse (
 neg_contains c w out h p =
     subst (In (neg_class c))
     (determined (inverted w) out h.rises p.rises
-    (sym (p.starts ∙ ap not (and_true w.first)))
-    (λ t. at_inverted w t ∙ sym (p.follows t ∙ ap not (and_true (at w t)))))
+    (sym (p.starts ∙ ap not (and-true w.first)))
+    (λ t. at_inverted w t ∙ sym (p.follows t ∙ ap not (and-true (at w t)))))
     (in_inverted c w h)
 
 -- a pin that is constant, and what the other pin then makes of the output
@@ -178,7 +180,7 @@ module _ (c d : Class) (w u out : Waveform) (h : In c w) (k : In d u) where
       low_in = record { rises = tt; starts = tt; moving = tt; ends = tt }
 
   and_high : T (same_class c C111) → Pointwise all_ones (w ∷ u ∷ []) out → In d out
-  and_high t p = subst (In d) (same_as_pin all_ones and_true u out k.rises (record { rises = q.rises; starts = q.starts; follows = q.follows })) k
+  and_high t p = subst (In d) (same_as_pin all_ones and-true u out k.rises (record { rises = q.rises; starts = q.starts; follows = q.follows })) k
     where
       q : Pointwise all_ones (constant true ∷ u ∷ []) out
       q = subst (λ (v : Waveform). Pointwise all_ones (v ∷ u ∷ []) out) (sym (high_pin t)) p
@@ -254,12 +256,12 @@ two_falls w u out h k p =
 -- a clean class is 0R1 or 1F0
 pub clean_cases : (c : Class) → T (is_clean c) → T (same_class c C0R1) ⊎ T (same_class c C1F0)
 clean_cases c h =
-    either_part (same_class c C0R1) (same_class c C1F0)
+    or_yes (same_class c C0R1) (same_class c C1F0)
     (given (is_clean c) (same_class c C0R1 || same_class c C1F0) (for_each (λ x. gives (is_clean x) (same_class x C0R1 || same_class x C1F0)) tt c) h)
 
 clean_contains : (c d : Class) (w u out : Waveform) → T (is_clean c && same_class c d) → In c w → In d u → Pointwise all_ones (w ∷ u ∷ []) out → In c out
 clean_contains c d w u out t h k p =
-    let q = both_parts (is_clean c) (same_class c d) t in
+    let q = and_yes (is_clean c) (same_class c d) t in
     let k' : In c u = subst (λ (x : Class). In x u) (sym (same_class_lem c d q.1)) k in
     elim (clean_cases c q.0) [ inl e ↦ as_class C0R1 (same_class_lem c C0R1 e) k' two_rises | inr e ↦ as_class C1F0 (same_class_lem c C1F0 e) k' two_falls ]
   where
@@ -281,7 +283,7 @@ conj_contains c d w u out h k p =
     let p' = swapped all_ones swap_and w u out p in
     let R : Class → Type 0 = λ x. In x out in
     by_test R (same_class c C000 || same_class d C000) C000 _
-    (λ t. elim (either_part (same_class c C000) (same_class d C000) t) [ inl e ↦ and_low c d w u out h k e p | inr e ↦ and_low d c u w out k h e p' ])
+    (λ t. elim (or_yes (same_class c C000) (same_class d C000) t) [ inl e ↦ and_low c d w u out h k e p | inr e ↦ and_low d c u w out k h e p' ])
     (by_test R (same_class c C111) d _ (λ t. and_high c d w u out h k t p)
     (by_test R (same_class d C111) c _ (λ t. and_high d c u w out k h t p')
     (by_test R (is_clean c && same_class c d) c _ (λ t. clean_contains c d w u out t h k p)
