@@ -165,39 +165,27 @@ module _ (c d : Class) (w u out : Waveform) (h : In c w) (k : In d u) where
   high_pin : T (same_class c C111) → constant true ≡ w
   high_pin t = is_high w.first w.flips (subst (λ (x : Class). In x w) (same_class_lem c C111 t) h).moving
 
+  -- with the first pin constant the output is one of the second pin alone
+  second_pin : (f g : List Bool → Bool) (b : Bool) → ((a : Bool) → f (b ∷ a ∷ []) ≡ g (a ∷ [])) → constant b ≡ w → Pointwise f (w ∷ u ∷ []) out → Pointwise g (u ∷ []) out
+  second_pin f g b same e p =
+      let q = subst (λ (v : Waveform). Pointwise f (v ∷ u ∷ []) out) (sym e) p in
+      record { rises = q.rises; starts = q.starts ∙ same u.first; follows = λ n. q.follows n ∙ same (at u n) }
+
   and_low : T (same_class c C000) → Pointwise all_ones (w ∷ u ∷ []) out → In C000 out
-  and_low t p = subst (In C000) (determined (constant false) out tt p.rises (sym first) (λ n. sym (follow n))) low_in
-    where
-      q : Pointwise all_ones (constant false ∷ u ∷ []) out
-      q = subst (λ (v : Waveform). Pointwise all_ones (v ∷ u ∷ []) out) (sym (low_pin t)) p
-
-      first : out.first ≡ false
-      first = q.starts
-
-      follow : (n : ℕ) → at out n ≡ false
-      follow n = q.follows n
-
-      low_in : In C000 (constant false)
-      low_in = record { rises = tt; starts = tt; moving = tt; ends = tt }
+  and_low t p =
+      let q = second_pin all_ones (λ bs. false) false (λ a. refl) (low_pin t) p in
+      subst (In C000) (determined (constant false) out tt q.rises (sym q.starts) (λ n. sym (q.follows n)))
+      (record { rises = tt; starts = tt; moving = tt; ends = tt })
 
   and_high : T (same_class c C111) → Pointwise all_ones (w ∷ u ∷ []) out → In d out
-  and_high t p = subst (In d) (same_as_pin all_ones and-true u out k.rises (record { rises = q.rises; starts = q.starts; follows = q.follows })) k
-    where
-      q : Pointwise all_ones (constant true ∷ u ∷ []) out
-      q = subst (λ (v : Waveform). Pointwise all_ones (v ∷ u ∷ []) out) (sym (high_pin t)) p
+  and_high t p = subst (In d) (same_as_pin all_ones and-true u out k.rises (second_pin all_ones all_ones true (λ a. refl) (high_pin t) p)) k
 
   odd_low : T (same_class c C000) → Pointwise odd_ones (w ∷ u ∷ []) out → In d out
-  odd_low t p = subst (In d) (same_as_pin odd_ones odd_joins.of_one u out k.rises (record { rises = q.rises; starts = q.starts; follows = q.follows })) k
-    where
-      q : Pointwise odd_ones (constant false ∷ u ∷ []) out
-      q = subst (λ (v : Waveform). Pointwise odd_ones (v ∷ u ∷ []) out) (sym (low_pin t)) p
+  odd_low t p = subst (In d) (same_as_pin odd_ones odd_joins.of_one u out k.rises (second_pin odd_ones odd_ones false (λ a. refl) (low_pin t) p)) k
 
   odd_high : T (same_class c C111) → Pointwise odd_ones (w ∷ u ∷ []) out → In (neg_class d) out
-  odd_high t p = neg_contains d u out k (record { rises = q.rises; starts = q.starts ∙ turned u.first; follows = λ n. q.follows n ∙ turned (at u n) })
+  odd_high t p = neg_contains d u out k (second_pin odd_ones inverse true turned (high_pin t) p)
     where
-      q : Pointwise odd_ones (constant true ∷ u ∷ []) out
-      q = subst (λ (v : Waveform). Pointwise odd_ones (v ∷ u ∷ []) out) (sym (high_pin t)) p
-
       turned : (b : Bool) → odd_ones (true ∷ b ∷ []) ≡ inverse (b ∷ [])
       turned true = refl
       turned false = refl
