@@ -1,50 +1,43 @@
-// Gate evaluation at the thirteen classes and at the three values gives the narrowest value that contains every output.
+// Gate evaluation gives the narrowest value that contains every output, at the thirteen classes and at the three values.
 #![tactic(auto)]
 
-ghost use Rattle.std.specs.Prelude.{◌≡◌};
-ghost use Rattle.waveform.specs.Algebra.{evaluated};
-ghost use Rattle.classes.specs.Class.{In, Narrower};
-ghost use Rattle.classes.specs.declared.class.Class.{Class as OneClass};
+ghost use Rattle.std.specs.Prelude.{◌≡◌, List};
+ghost use Rattle.functions.specs.declared.function.Function.{Function as GateFunction};
 ghost use Rattle.functions.specs.Function.{described};
-ghost use Rattle.waveform.specs.Narrowest.{Contains, Narrowest};
-ghost use Rattle.waveform.specs.Ops.{class_ops, three_ops};
-ghost use Rattle.classes.specs.Three.{Stands};
+ghost use Rattle.waveform.specs.Algebra.{evaluated};
+ghost use Rattle.waveform.specs.Narrowest.{Contains, Narrower, Narrowest};
+ghost use Rattle.narrowest.specs.Narrower.{NarrowerClasses};
+ghost use Rattle.narrowest.specs.Classes.{class_narrowest};
+ghost use Rattle.narrowest.specs.Values.{three_narrowest};
 
 use classes::{Class, Three};
 use functions::Function;
-use waveform::evaluate;
+use waveform::{SwitchingAlgebra, evaluate};
 
-// The classes of the pins, folded.
-fn folded_classes(function: Function, pins: &[Class]) -> Class
-    ensures value { result ≡ evaluated class_ops function pins.now }
-    ensures contains { Contains In (described function).truth pins.now result }
-{
-    evaluate::<Class>(function, pins)
+// A switching algebra at which the evaluation of every gate function gives the narrowest value.
+pub trait NarrowestAlgebra: SwitchingAlgebra {
+    ghost narrowest: { (f : GateFunction) (pins : List Self) → Narrowest Self.stands (described f).truth pins (evaluated Self.ops f pins) };
 }
 
-// The values of the pins, folded.
-fn folded_values(function: Function, pins: &[Three]) -> Three
-    ensures value { result ≡ evaluated three_ops function pins.now }
-    ensures contains { Contains Stands (described function).truth pins.now result }
-{
-    evaluate::<Three>(function, pins)
+impl NarrowestAlgebra for Class {
+    ghost narrowest = { class_narrowest };
 }
 
-// The narrowest class that contains every output of the function, without delay, for all waveforms in the classes of its
-// pins, each pin's chosen freely; for any number of pins.
-pub fn evaluate_classes(function: Function, pins: &[Class]) -> Class
-    ensures value { result ≡ evaluated class_ops function pins.now }
-    ensures narrowest { Narrowest In (described function).truth pins.now result }
-    ensures none_narrower { (u : OneClass) → Narrower u result → Contains In (described function).truth pins.now u → ⊥ }
-{
-    folded_classes(function, pins)
+impl NarrowestAlgebra for Three {
+    ghost narrowest = { three_narrowest };
 }
 
-// The narrowest of the three values that contains every output of the function for all constants that its pins stand for,
+// The narrowest value that contains every output of the function, without delay, for all waveforms that its pins stand for,
 // each pin's chosen freely; for any number of pins.
-pub fn evaluate_values(function: Function, pins: &[Three]) -> Three
-    ensures value { result ≡ evaluated three_ops function pins.now }
-    ensures narrowest { Narrowest Stands (described function).truth pins.now result }
+pub fn evaluate_narrowest<V: NarrowestAlgebra>(function: Function, pins: &[V]) -> V
+    ensures value { result ≡ evaluated V.ops function pins.now }
+    ensures narrowest { Narrowest V.stands (described function).truth pins.now result }
+    ensures none_narrower { (u : V) → Narrower V.stands u result → Contains V.stands (described function).truth pins.now u → ⊥ }
 {
-    folded_values(function, pins)
+    evaluate(function, pins)
 }
+
+// Of classes, the narrower are just those that hold some, not all, of the waveforms.
+pub fn narrower_classes_hold_less()
+    ensures { NarrowerClasses }
+{}

@@ -1,9 +1,11 @@
 -- The output of a gate with two pins, all flips of the first before all flips of the second. Assumes nothing.
 use Rattle.std.proofs.Common.{◌≡◌, ℕ, suc, ◌<◌, ◌≤◌, Bool, true, false, cond, not, ◌&&◌, T, ltb, ◌⊎◌, List, [], ◌∷◌, ◌++◌, sym, refl, ap, ◌∙◌, inl, inr, zero-le, arith, ltb→lt}
+use Rattle.std.proofs.Math.Bool.{not-not}
 use Rattle.std.proofs.lemmas.Bool.{cases_lt}
+use Rattle.std.proofs.Math.Facts.{and_yes}
 use Rattle.signals.specs.Waveform.{Waveform, Rising, rising_from, flipped_by_all, final, has}
 use Rattle.signals.specs.GateRule.{Pointwise}
-use Rattle.signals.proofs.Waveforms.{both_parts, same_or_not, rising_parts, from_rising_parts, rising_from_lower, has_cases, seen_by, seen, seen_past, seen_ahead, seen_before_rising, seen_after}
+use Rattle.signals.proofs.Waveforms.{same_or_not, rising_parts, from_rising_parts, rising_from_lower, has_cases, seen_by, seen, seen_past, seen_ahead, seen_before_rising, seen_after}
 pub use Rattle.signals.proofs.Waveforms.{same_bool}
 use Rattle.signals.proofs.Outputs.{pointwise_from_seen}
 
@@ -15,7 +17,7 @@ below k (t ∷ ts) = ltb t k && below k ts
 pub below_has : (k t : ℕ) (ts : List ℕ) → T (below k ts) → T (has t ts) → t < k
 below_has k t [] b h = absurd h
 below_has k t (f ∷ fs) b h =
-    let p = both_parts (ltb f k) (below k fs) b in
+    let p = and_yes (ltb f k) (below k fs) b in
     let l = ltb→lt f k p.0 in
     elim (has_cases t f fs h) [ inl e ↦ omega arith | inr q ↦ below_has k t fs p.1 q ]
 
@@ -43,12 +45,8 @@ constant_or_inverts g = elim (same_or_not (g false) (g true)) [ inl p ↦ inl (p
     stays e false true = e
     stays e false false = refl
 
-    back : (b : Bool) → b ≡ not (not b)
-    back true = refl
-    back false = refl
-
     turns : not (g false) ≡ g true → (a : Bool) → g (not a) ≡ not (g a)
-    turns e true = back (g false) ∙ ap not e
+    turns e true = sym (not-not (g false)) ∙ ap not e
     turns e false = sym e
 
 pub inverted_seen : (g : Bool → Bool) → ((a : Bool) → g (not a) ≡ not (g a)) → (n : ℕ) (b : Bool) (ts : List ℕ) → seen_by n (g b) ts ≡ g (seen_by n b ts)
@@ -72,21 +70,17 @@ pub one_pin_all : (g : Bool → Bool) (b : Bool) (ts : List ℕ) → flipped_by_
 one_pin_all g b ts =
     elim (constant_or_inverts g) [ inl p ↦ rw p.0 (p.1 b (flipped_by_all b ts)) | inr p ↦ rw p.0 (inverted_all g p.1 b ts) ]
 
--- a list that is kept or left out whole still rises, and is still below k
-pub cond_rising : (c : Bool) (low : ℕ) (ts : List ℕ) → T (rising_from low ts) → T (rising_from low (cond c [] ts))
-cond_rising true low ts r = tt
-cond_rising false low ts r = r
-
-pub cond_below : (c : Bool) (k : ℕ) (ts : List ℕ) → T (below k ts) → T (below k (cond c [] ts))
-cond_below true k ts r = tt
-cond_below false k ts r = r
+-- what holds of no flips and of these holds of a list that is kept or left out whole
+pub cond_keeps : (P : List ℕ → Bool) (c : Bool) (ts : List ℕ) → T (P []) → T (P ts) → T (P (cond c [] ts))
+cond_keeps P true ts h k = h
+cond_keeps P false ts h k = k
 
 -- one rising list after another
 pub append_rising : (low k : ℕ) (xs ys : List ℕ) → low ≤ k → T (rising_from low xs) → T (below k xs) → T (rising_from k ys) → T (rising_from low (xs ++ ys))
 append_rising low k [] ys h r b s = rising_from_lower low k ys h s
 append_rising low k (x ∷ xs) ys h r b s =
     let p = rising_parts low x xs r in
-    let q = both_parts (ltb x k) (below k xs) b in
+    let q = and_yes (ltb x k) (below k xs) b in
     from_rising_parts low x (xs ++ ys) p.0 (append_rising (suc x) k xs ys (ltb→lt x k q.0) p.1 q.1 s)
 
 pub append_seen : (n : ℕ) (b : Bool) (xs ys : List ℕ) → seen_by n b (xs ++ ys) ≡ seen_by n (seen_by n b xs) ys
@@ -119,12 +113,12 @@ apart_output f w u k r b s = pointwise_from_seen f (w ∷ u ∷ []) (apart f w u
     ys = one_pin (by_second f w) u.flips
 
     ys_rise : T (rising_from k ys)
-    ys_rise = cond_rising (same_bool (by_second f w false) (by_second f w true)) k u.flips s
+    ys_rise = cond_keeps (rising_from k) (same_bool (by_second f w false) (by_second f w true)) u.flips tt s
 
     rises : Rising (apart f w u)
     rises =
         let c = same_bool (by_first f u false) (by_first f u true) in
-        append_rising 0 k xs ys zero-le (cond_rising c 0 w.flips r) (cond_below c k w.flips b) ys_rise
+        append_rising 0 k xs ys zero-le (cond_keeps (rising_from 0) c w.flips tt r) (cond_keeps (below k) c w.flips tt b) ys_rise
 
     start : Bool
     start = f (w.first ∷ u.first ∷ [])

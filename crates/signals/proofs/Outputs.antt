@@ -11,14 +11,10 @@ abbrev pub seen_all : ℕ → List Waveform → List Bool
 seen_all n pins = map (λ w. seen w n) pins
 
 pub seen_firsts : (pins : List Waveform) → seen_all zero pins ≡ firsts pins
-seen_firsts [] = refl
-seen_firsts (w ∷ ws) =
-    let p = seen_first w.first w.flips in let q = seen_firsts ws in cc
+seen_firsts pins = λ i. map (λ w. seen_first w.first w.flips i) pins
 
 pub seen_sampled : (t : ℕ) (pins : List Waveform) → seen_all (suc t) pins ≡ sampled t pins
-seen_sampled t [] = refl
-seen_sampled t (w ∷ ws) =
-    let p = seen_tick t w.first w.flips in let q = seen_sampled t ws in cc
+seen_sampled t pins = λ i. map (λ w. sym (seen_tick t w.first w.flips) i) pins
 
 -- the output without delay, by one equation at every instant
 pub pointwise_seen : (f : List Bool → Bool) (pins : List Waveform) (out : Waveform) → Pointwise f pins out → (n : ℕ) → seen out n ≡ f (seen_all n pins)

@@ -1,24 +1,12 @@
 -- Lemmas on waveforms: the value at each instant, the flips, and that the values determine the waveform. Assumes nothing.
-use Rattle.std.proofs.Common.{◌≡◌, ℕ, zero, suc, ◌+◌, ◌<◌, ◌≤◌, Bool, true, false, cond, not, ◌&&◌, ◌||◌, T, eqb, ltb, leb, ◌⊎◌, List, [], ◌∷◌, sym, refl, ap, ◌∙◌, subst, inl, inr, add-one, arith, le→leb, eqb→eq, leb→le}
+use Rattle.std.proofs.Common.{◌≡◌, ℕ, zero, suc, ◌+◌, ◌<◌, ◌≤◌, Bool, true, false, cond, not, ◌||◌, T, eqb, ltb, leb, ◌⊎◌, List, [], ◌∷◌, sym, refl, ap, ◌∙◌, subst, inl, inr, add-one, arith, le→leb, eqb→eq, leb→le}
 use lib.Dec.{leb-suc-suc, leb-suc-zero, eqb_refl}
 use Rattle.std.proofs.lemmas.Bool.{lt-ltb, le-ltb, cases_lt, cases_order}
+use Rattle.std.proofs.Math.Facts.{and_yes, or_yes, yes_and}
 use Rattle.signals.specs.Waveform.{Waveform, rising_from, flipped_by, flipped_by_all, at, has}
 use Rattle.signals.specs.Theorems.{Determined}
 
--- both parts of a conjunction of tests
-pub both_parts : (a b : Bool) → T (a && b) → T a × T b
-both_parts true b h = (tt, h)
-both_parts false b h = absurd h
-
-pub from_both : (a b : Bool) → T a → T b → T (a && b)
-from_both true b p q = q
-from_both false b p q = p
-
--- one part of a disjunction of tests
-pub either_part : (a b : Bool) → T (a || b) → T a ⊎ T b
-either_part true b h = inl tt
-either_part false b h = inr h
-
+-- one part makes a disjunction of tests
 pub from_left : (a b : Bool) → T a → T (a || b)
 from_left true b h = tt
 from_left false b h = absurd h
@@ -46,12 +34,12 @@ same_or_not false false = inl (refl, refl)
 -- the flips of a rising list, taken apart and put together
 pub rising_parts : (low t : ℕ) (ts : List ℕ) → T (rising_from low (t ∷ ts)) → (low ≤ t) × T (rising_from (suc t) ts)
 rising_parts low t ts h =
-    let p = both_parts (leb low t) (rising_from (t + 1) ts) h in
+    let p = and_yes (leb low t) (rising_from (t + 1) ts) h in
     (leb→le low t p.0, subst (λ (k : ℕ). T (rising_from k ts)) (add-one t) p.1)
 
 pub from_rising_parts : (low t : ℕ) (ts : List ℕ) → low ≤ t → T (rising_from (suc t) ts) → T (rising_from low (t ∷ ts))
 from_rising_parts low t ts h r =
-    from_both (leb low t) (rising_from (t + 1) ts) (le→leb low t h) (subst (λ (k : ℕ). T (rising_from k ts)) (sym (add-one t)) r)
+    yes_and (leb low t) (rising_from (t + 1) ts) (le→leb low t h) (subst (λ (k : ℕ). T (rising_from k ts)) (sym (add-one t)) r)
 
 -- a lower start will do too
 pub rising_from_lower : (low high : ℕ) (ts : List ℕ) → low ≤ high → T (rising_from high ts) → T (rising_from low ts)
@@ -62,7 +50,7 @@ rising_from_lower low high (t ∷ ts) h r =
 -- the ticks of a list
 pub has_cases : (t f : ℕ) (fs : List ℕ) → T (has t (f ∷ fs)) → (f ≡ t) ⊎ T (has t fs)
 has_cases t f fs h =
-    elim (either_part (eqb f t) (has t fs) h) [ inl p ↦ inl (eqb→eq f t p) | inr p ↦ inr p ]
+    elim (or_yes (eqb f t) (has t fs) h) [ inl p ↦ inl (eqb→eq f t p) | inr p ↦ inr p ]
 
 pub has_here : (t : ℕ) (fs : List ℕ) → T (has t (t ∷ fs))
 has_here t fs = from_left (eqb t t) (has t fs) (eqb_refl t)
@@ -162,10 +150,6 @@ seen_flips low t b (f ∷ fs) r h =
 
     there : suc f ≤ t → seen_by (suc t) (not b) fs ≡ not (seen_by t (not b) fs) → seen_by (suc t) b (f ∷ fs) ≡ not (seen_by t b (f ∷ fs))
     there l e = seen_past (suc t) f b fs (omega arith) ∙ e ∙ ap not (sym (seen_past t f b fs l))
-
--- the value changes at a tick: there is a flip
-pub flip_from_change : (t : ℕ) (b : Bool) (fs : List ℕ) → (seen_by (suc t) b fs ≡ seen_by t b fs → ⊥) → T (has t fs)
-flip_from_change t b fs h = elim (has_or_not t fs) [ inl p ↦ p | inr n ↦ absurd (h (seen_stays t b fs n)) ]
 
 -- before every tick of a rising list: the first value
 pub seen_before_rising : (low n : ℕ) (b : Bool) (fs : List ℕ) → n ≤ low → T (rising_from low fs) → seen_by n b fs ≡ b

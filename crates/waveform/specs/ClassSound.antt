@@ -1,10 +1,13 @@
 -- The thirteen classes as a switching algebra: each operation contains what the waveforms of its arguments give. Assumes nothing.
 use Rattle.std.specs.Prelude.{◌≡◌, ℕ, suc, ◌≤◌, Bool, true, false, cond, not, ◌&&◌, ◌||◌, T, ◌⊎◌, List, [], ◌∷◌, nat_le, refl}
 use Rattle.std.proofs.Common.{sym, ap, subst, ◌∙◌, inl, inr, arith, leb→le, le→leb}
+use Rattle.std.proofs.Math.Path.{subst₂}
+use Rattle.std.proofs.Math.Bool.{and-true, not-not}
 use Rattle.std.proofs.lemmas.Bool.{cases_lt}
+use Rattle.std.proofs.Math.Facts.{and_yes, or_yes}
 use Rattle.signals.specs.Waveform.{Waveform, Rising, at, final, flipped_by_all, constant}
 use Rattle.signals.specs.GateRule.{Pointwise}
-use Rattle.signals.proofs.Waveforms.{determined, both_parts, either_part, seen_tick, seen_not}
+use Rattle.signals.proofs.Waveforms.{determined, seen_tick, seen_not}
 use Rattle.signals.proofs.Finals.{finals}
 use Rattle.classes.specs.declared.three.Three.{Three}
 use Rattle.classes.specs.declared.three.Three.TheVariants.{Zero, One, Unknown}
@@ -16,7 +19,7 @@ use Rattle.classes.specs.Class.{In, Middle, low, high, rise, fall, free, describ
 use Rattle.waveform.specs.Algebra.{Sound, inverse}
 use Rattle.waveform.specs.Ops.{neg_three, conj_three, excl_three, free_class, same_class, neg_class, conj_class, excl_class, class_ops}
 use Rattle.waveform.specs.Classes.{same_class_lem, for_each}
-use Rattle.waveform.specs.Contains.{odd_joins, and_true, not_not, same_as_pin}
+use Rattle.waveform.specs.Contains.{odd_joins, same_as_pin}
 use Rattle.waveform.specs.ThreeSound.{neg_allows, conj_allows, excl_allows, allowed_as}
 
 -- a test that passes if the other does
@@ -129,16 +132,16 @@ neg_letters CXXX = (refl, refl, refl)
 
 neg_moves : (m : Middle) (w : Waveform) → T (moves m w) → T (moves (neg_middle m) (inverted w))
 neg_moves low w h = h
-neg_moves high w h = subst (λ (b : Bool). T (b && none w.flips)) (not_not w.first) h
+neg_moves high w h = subst (λ (b : Bool). T (b && none w.flips)) (sym (not-not w.first)) h
 neg_moves rise w h = h
-neg_moves fall w h = subst (λ (b : Bool). T (b && single w.flips)) (not_not w.first) h
+neg_moves fall w h = subst (λ (b : Bool). T (b && single w.flips)) (sym (not-not w.first)) h
 neg_moves free w h = tt
 
 pub in_inverted : (c : Class) (w : Waveform) → In c w → In (neg_class c) (inverted w)
 in_inverted c w h =
     let e = neg_letters c in
-    let s = allowed_as (neg_three (described c).start) (ap not (sym (and_true w.first))) (neg_allows (described c).start w.first h.starts) in
-    let f = allowed_as (neg_three (described c).finish) (final_inverted w.first w.flips ∙ ap not (sym (and_true (final w)))) (neg_allows (described c).finish (final w) h.ends) in
+    let s = allowed_as (neg_three (described c).start) (ap not (sym (and-true w.first))) (neg_allows (described c).start w.first h.starts) in
+    let f = allowed_as (neg_three (described c).finish) (final_inverted w.first w.flips ∙ ap not (sym (and-true (final w)))) (neg_allows (described c).finish (final w) h.ends) in
     record {
       rises = h.rises;
       starts = subst (λ (v : Three). T ((three.described v).allows (not w.first))) e.0 s;
@@ -150,8 +153,8 @@ neg_contains : (c : Class) (w out : Waveform) → In c w → Pointwise inverse (
 neg_contains c w out h p =
     subst (In (neg_class c))
     (determined (inverted w) out h.rises p.rises
-    (sym (p.starts ∙ ap not (and_true w.first)))
-    (λ t. at_inverted w t ∙ sym (p.follows t ∙ ap not (and_true (at w t)))))
+    (sym (p.starts ∙ ap not (and-true w.first)))
+    (λ t. at_inverted w t ∙ sym (p.follows t ∙ ap not (and-true (at w t)))))
     (in_inverted c w h)
 
 -- a pin that is constant, and what the other pin then makes of the output
@@ -162,39 +165,27 @@ module _ (c d : Class) (w u out : Waveform) (h : In c w) (k : In d u) where
   high_pin : T (same_class c C111) → constant true ≡ w
   high_pin t = is_high w.first w.flips (subst (λ (x : Class). In x w) (same_class_lem c C111 t) h).moving
 
+  -- with the first pin constant the output is one of the second pin alone
+  second_pin : (f g : List Bool → Bool) (b : Bool) → ((a : Bool) → f (b ∷ a ∷ []) ≡ g (a ∷ [])) → constant b ≡ w → Pointwise f (w ∷ u ∷ []) out → Pointwise g (u ∷ []) out
+  second_pin f g b same e p =
+      let q = subst (λ (v : Waveform). Pointwise f (v ∷ u ∷ []) out) (sym e) p in
+      record { rises = q.rises; starts = q.starts ∙ same u.first; follows = λ n. q.follows n ∙ same (at u n) }
+
   and_low : T (same_class c C000) → Pointwise all_ones (w ∷ u ∷ []) out → In C000 out
-  and_low t p = subst (In C000) (determined (constant false) out tt p.rises (sym first) (λ n. sym (follow n))) low_in
-    where
-      q : Pointwise all_ones (constant false ∷ u ∷ []) out
-      q = subst (λ (v : Waveform). Pointwise all_ones (v ∷ u ∷ []) out) (sym (low_pin t)) p
-
-      first : out.first ≡ false
-      first = q.starts
-
-      follow : (n : ℕ) → at out n ≡ false
-      follow n = q.follows n
-
-      low_in : In C000 (constant false)
-      low_in = record { rises = tt; starts = tt; moving = tt; ends = tt }
+  and_low t p =
+      let q = second_pin all_ones (λ bs. false) false (λ a. refl) (low_pin t) p in
+      subst (In C000) (determined (constant false) out tt q.rises (sym q.starts) (λ n. sym (q.follows n)))
+      (record { rises = tt; starts = tt; moving = tt; ends = tt })
 
   and_high : T (same_class c C111) → Pointwise all_ones (w ∷ u ∷ []) out → In d out
-  and_high t p = subst (In d) (same_as_pin all_ones and_true u out k.rises (record { rises = q.rises; starts = q.starts; follows = q.follows })) k
-    where
-      q : Pointwise all_ones (constant true ∷ u ∷ []) out
-      q = subst (λ (v : Waveform). Pointwise all_ones (v ∷ u ∷ []) out) (sym (high_pin t)) p
+  and_high t p = subst (In d) (same_as_pin all_ones and-true u out k.rises (second_pin all_ones all_ones true (λ a. refl) (high_pin t) p)) k
 
   odd_low : T (same_class c C000) → Pointwise odd_ones (w ∷ u ∷ []) out → In d out
-  odd_low t p = subst (In d) (same_as_pin odd_ones odd_joins.of_one u out k.rises (record { rises = q.rises; starts = q.starts; follows = q.follows })) k
-    where
-      q : Pointwise odd_ones (constant false ∷ u ∷ []) out
-      q = subst (λ (v : Waveform). Pointwise odd_ones (v ∷ u ∷ []) out) (sym (low_pin t)) p
+  odd_low t p = subst (In d) (same_as_pin odd_ones odd_joins.of_one u out k.rises (second_pin odd_ones odd_ones false (λ a. refl) (low_pin t) p)) k
 
   odd_high : T (same_class c C111) → Pointwise odd_ones (w ∷ u ∷ []) out → In (neg_class d) out
-  odd_high t p = neg_contains d u out k (record { rises = q.rises; starts = q.starts ∙ turned u.first; follows = λ n. q.follows n ∙ turned (at u n) })
+  odd_high t p = neg_contains d u out k (second_pin odd_ones inverse true turned (high_pin t) p)
     where
-      q : Pointwise odd_ones (constant true ∷ u ∷ []) out
-      q = subst (λ (v : Waveform). Pointwise odd_ones (v ∷ u ∷ []) out) (sym (high_pin t)) p
-
       turned : (b : Bool) → odd_ones (true ∷ b ∷ []) ≡ inverse (b ∷ [])
       turned true = refl
       turned false = refl
@@ -215,51 +206,48 @@ earlier_fall false false h = refl
 reached_first : (s t n : ℕ) → s ≤ t → T (nat_le t n) → T (nat_le s n)
 reached_first s t n h k = le→leb s n (omega (arith, leb→le t n k))
 
-ordered_rises : (s t : ℕ) (w u out : Waveform) → w ≡ once false s → u ≡ once false t → s ≤ t → In C0R1 u → Pointwise all_ones (w ∷ u ∷ []) out → In C0R1 out
-ordered_rises s t w u out e f l k p =
+ordered_rises : (s t : ℕ) (out : Waveform) → s ≤ t → In C0R1 (once false s) → In C0R1 (once false t) → Pointwise all_ones (once false s ∷ once false t ∷ []) out → In C0R1 out
+ordered_rises s t out l h k p =
     subst (In C0R1)
-    (determined u out k.rises p.rises
-    (ap (λ v. v.first) f ∙ sym (p.starts ∙ ap (λ v. all_ones (v.first ∷ u.first ∷ [])) e ∙ ap (λ v. all_ones (false ∷ v.first ∷ [])) f))
-    (λ n. ap (λ v. at v n) f ∙ sym (p.follows n ∙ ap (λ v. all_ones (at v n ∷ at u n ∷ [])) e ∙ ap (λ v. all_ones (at (once false s) n ∷ at v n ∷ [])) f
-    ∙ later_rise (nat_le s n) (nat_le t n) (reached_first s t n l))))
+    (determined (once false t) out k.rises p.rises (sym p.starts)
+    (λ n. sym (p.follows n ∙ later_rise (nat_le s n) (nat_le t n) (reached_first s t n l))))
     k
 
-ordered_falls : (s t : ℕ) (w u out : Waveform) → w ≡ once true s → u ≡ once true t → s ≤ t → In C1F0 w → Pointwise all_ones (w ∷ u ∷ []) out → In C1F0 out
-ordered_falls s t w u out e f l h p =
+ordered_falls : (s t : ℕ) (out : Waveform) → s ≤ t → In C1F0 (once true s) → In C1F0 (once true t) → Pointwise all_ones (once true s ∷ once true t ∷ []) out → In C1F0 out
+ordered_falls s t out l h k p =
     subst (In C1F0)
-    (determined w out h.rises p.rises
-    (ap (λ v. v.first) e ∙ sym (p.starts ∙ ap (λ v. all_ones (v.first ∷ u.first ∷ [])) e ∙ ap (λ v. all_ones (true ∷ v.first ∷ [])) f))
-    (λ n. ap (λ v. at v n) e ∙ sym (p.follows n ∙ ap (λ v. all_ones (at v n ∷ at u n ∷ [])) e ∙ ap (λ v. all_ones (at (once true s) n ∷ at v n ∷ [])) f
-    ∙ earlier_fall (nat_le s n) (nat_le t n) (reached_first s t n l))))
+    (determined (once true s) out h.rises p.rises (sym p.starts)
+    (λ n. sym (p.follows n ∙ earlier_fall (nat_le s n) (nat_le t n) (reached_first s t n l))))
     h
 
-two_rises : (w u out : Waveform) → In C0R1 w → In C0R1 u → Pointwise all_ones (w ∷ u ∷ []) out → In C0R1 out
-two_rises w u out h k p =
-    let a = is_rise w.first w.flips h.moving in
-    let b = is_rise u.first u.flips k.moving in
-    elim (cases_lt a.0 b.0) [
-      | inl l ↦ ordered_rises a.0 b.0 w u out a.1 b.1 (omega arith) k p
-      | inr l ↦ ordered_rises b.0 a.0 u w out b.1 a.1 l h (swapped all_ones swap_and w u out p)
+-- what holds if the first pin flips no later than the second holds of pins in any order
+in_order : (c : Class) (b : Bool) →
+    ((s t : ℕ) (out : Waveform) → s ≤ t → In c (once b s) → In c (once b t) → Pointwise all_ones (once b s ∷ once b t ∷ []) out → In c out) →
+    (w u out : Waveform) → (s : ℕ) × (w ≡ once b s) → (t : ℕ) × (u ≡ once b t) → In c w → In c u → Pointwise all_ones (w ∷ u ∷ []) out → In c out
+in_order c b ordered w u out (s, e) (t, f) h k p =
+    let h' : In c (once b s) = subst (In c) e h in
+    let k' : In c (once b t) = subst (In c) f k in
+    let p' : Pointwise all_ones (once b s ∷ once b t ∷ []) out = subst₂ (λ v x. Pointwise all_ones (v ∷ x ∷ []) out) e f p in
+    elim (cases_lt s t) [
+      | inl l ↦ ordered s t out (omega arith) h' k' p'
+      | inr l ↦ ordered t s out l k' h' (swapped all_ones swap_and (once b s) (once b t) out p')
     ]
 
+two_rises : (w u out : Waveform) → In C0R1 w → In C0R1 u → Pointwise all_ones (w ∷ u ∷ []) out → In C0R1 out
+two_rises w u out h k = in_order C0R1 false ordered_rises w u out (is_rise w.first w.flips h.moving) (is_rise u.first u.flips k.moving) h k
+
 two_falls : (w u out : Waveform) → In C1F0 w → In C1F0 u → Pointwise all_ones (w ∷ u ∷ []) out → In C1F0 out
-two_falls w u out h k p =
-    let a = is_fall w.first w.flips h.moving in
-    let b = is_fall u.first u.flips k.moving in
-    elim (cases_lt a.0 b.0) [
-      | inl l ↦ ordered_falls a.0 b.0 w u out a.1 b.1 (omega arith) h p
-      | inr l ↦ ordered_falls b.0 a.0 u w out b.1 a.1 l k (swapped all_ones swap_and w u out p)
-    ]
+two_falls w u out h k = in_order C1F0 true ordered_falls w u out (is_fall w.first w.flips h.moving) (is_fall u.first u.flips k.moving) h k
 
 -- a clean class is 0R1 or 1F0
 pub clean_cases : (c : Class) → T (is_clean c) → T (same_class c C0R1) ⊎ T (same_class c C1F0)
 clean_cases c h =
-    either_part (same_class c C0R1) (same_class c C1F0)
+    or_yes (same_class c C0R1) (same_class c C1F0)
     (given (is_clean c) (same_class c C0R1 || same_class c C1F0) (for_each (λ x. gives (is_clean x) (same_class x C0R1 || same_class x C1F0)) tt c) h)
 
 clean_contains : (c d : Class) (w u out : Waveform) → T (is_clean c && same_class c d) → In c w → In d u → Pointwise all_ones (w ∷ u ∷ []) out → In c out
 clean_contains c d w u out t h k p =
-    let q = both_parts (is_clean c) (same_class c d) t in
+    let q = and_yes (is_clean c) (same_class c d) t in
     let k' : In c u = subst (λ (x : Class). In x u) (sym (same_class_lem c d q.1)) k in
     elim (clean_cases c q.0) [ inl e ↦ as_class C0R1 (same_class_lem c C0R1 e) k' two_rises | inr e ↦ as_class C1F0 (same_class_lem c C1F0 e) k' two_falls ]
   where
@@ -281,7 +269,7 @@ conj_contains c d w u out h k p =
     let p' = swapped all_ones swap_and w u out p in
     let R : Class → Type 0 = λ x. In x out in
     by_test R (same_class c C000 || same_class d C000) C000 _
-    (λ t. elim (either_part (same_class c C000) (same_class d C000) t) [ inl e ↦ and_low c d w u out h k e p | inr e ↦ and_low d c u w out k h e p' ])
+    (λ t. elim (or_yes (same_class c C000) (same_class d C000) t) [ inl e ↦ and_low c d w u out h k e p | inr e ↦ and_low d c u w out k h e p' ])
     (by_test R (same_class c C111) d _ (λ t. and_high c d w u out h k t p)
     (by_test R (same_class d C111) c _ (λ t. and_high d c u w out k h t p')
     (by_test R (is_clean c && same_class c d) c _ (λ t. clean_contains c d w u out t h k p)

@@ -1,6 +1,7 @@
 -- A gate's value contains every output of the gate: proved once, from the laws of a switching algebra. Assumes nothing.
-use Rattle.std.specs.Prelude.{◌≡◌, Bool, true, false, not, ◌&&◌, List, [], ◌∷◌, refl}
+use Rattle.std.specs.Prelude.{◌≡◌, Bool, true, false, not, List, [], ◌∷◌, refl}
 use Rattle.std.proofs.Common.{sym, ap, subst, ◌∙◌}
+use Rattle.std.proofs.Math.Bool.{and-true, or-false, not-not}
 use Rattle.signals.specs.Waveform.{Waveform, Rising, at, constant}
 use Rattle.signals.specs.GateRule.{Pointwise, firsts, sampled}
 use Rattle.signals.proofs.Waveforms.{determined}
@@ -17,16 +18,8 @@ pub record Joins (whole : List Bool → Bool) (unit : Bool) : Type 0 where
   pub of_one : (b : Bool) → whole (b ∷ []) ≡ b
   pub of_two : (a b : Bool) (bs : List Bool) → whole (a ∷ b ∷ bs) ≡ whole (whole (a ∷ b ∷ []) ∷ bs)
 
-pub not_not : (b : Bool) → b ≡ not (not b)
-not_not true = refl
-not_not false = refl
-
-pub and_true : (b : Bool) → b && true ≡ b
-and_true true = refl
-and_true false = refl
-
 pub all_joins : Joins all_ones true
-all_joins = record { of_unit = λ bs. refl; of_one = and_true; of_two = two }
+all_joins = record { of_unit = λ bs. refl; of_one = and-true; of_two = two }
   where
     two : (a b : Bool) (bs : List Bool) → all_ones (a ∷ b ∷ bs) ≡ all_ones (all_ones (a ∷ b ∷ []) ∷ bs)
     two true true bs = refl
@@ -35,12 +28,8 @@ all_joins = record { of_unit = λ bs. refl; of_one = and_true; of_two = two }
     two false false bs = refl
 
 pub some_joins : Joins some_one false
-some_joins = record { of_unit = λ bs. refl; of_one = one; of_two = two }
+some_joins = record { of_unit = λ bs. refl; of_one = or-false; of_two = two }
   where
-    one : (b : Bool) → some_one (b ∷ []) ≡ b
-    one true = refl
-    one false = refl
-
     two : (a b : Bool) (bs : List Bool) → some_one (a ∷ b ∷ bs) ≡ some_one (some_one (a ∷ b ∷ []) ∷ bs)
     two true true bs = refl
     two true false bs = refl
@@ -55,7 +44,7 @@ odd_joins = record { of_unit = λ bs. refl; of_one = one; of_two = two }
     one false = refl
 
     two : (a b : Bool) (bs : List Bool) → odd_ones (a ∷ b ∷ bs) ≡ odd_ones (odd_ones (a ∷ b ∷ []) ∷ bs)
-    two true true bs = sym (not_not (odd_ones bs))
+    two true true bs = not-not (odd_ones bs)
     two true false bs = refl
     two false true bs = refl
     two false false bs = refl
@@ -101,8 +90,8 @@ module _ {V : Type 0} (ops : Ops V) (stands : V → Waveform → Type 0) (sound 
       sound.neg_contains x u.0 out (c ws m u.0 u.1)
       (record {
         rises = p.rises;
-        starts = p.starts ∙ ap not (sym u.1.starts ∙ sym (and_true u.0.first));
-        follows = λ t. p.follows t ∙ ap not (sym (u.1.follows t) ∙ sym (and_true (at u.0 t)));
+        starts = p.starts ∙ ap not (sym u.1.starts ∙ sym (and-true u.0.first));
+        follows = λ t. p.follows t ∙ ap not (sym (u.1.follows t) ∙ sym (and-true (at u.0 t)));
       })
 
   disj_contains : (x y : V) (w u out : Waveform) → stands x w → stands y u → Pointwise some_one (w ∷ u ∷ []) out → stands (disj ops x y) out

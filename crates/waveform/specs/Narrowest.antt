@@ -19,3 +19,7 @@ Contains stands truth pins v =
 pub record Narrowest {V : Type 0} (stands : V → Waveform → Type 0) (truth : List Bool → Bool) (pins : List V) (v : V) : Type 0 where
   pub contains : Contains stands truth pins v
   pub least : (u : V) → Contains stands truth pins u → (w : Waveform) → stands v w → stands u w
+
+-- the one value stands for some, not all, of the waveforms that the other stands for
+abbrev pub Narrower : {V : Type 0} → (V → Waveform → Type 0) → V → V → Type 0
+Narrower stands u v = ((w : Waveform) → stands u w → stands v w) × (((w : Waveform) → stands v w → stands u w) → ⊥)

@@ -4,7 +4,7 @@ ghost use Rattle.std.specs.Prelude.{◌≡◌};
 ghost use Rattle.signals.specs.Waveform.{Waveform};
 ghost use Rattle.waveform.specs.Algebra.{Lawful, Ops, Sound, disj};
 ghost use Rattle.classes.specs.Class.{In};
-ghost use Rattle.waveform.specs.Ops.{class_ops, free_class, same_class, three_ops};
+ghost use Rattle.waveform.specs.Ops.{class_ops, free_class, three_ops};
 ghost use Rattle.classes.specs.Three.{Stands};
 ghost use Rattle.waveform.specs.ThreeSound.{three_sound};
 ghost use Rattle.std.proofs.Common.{rules};
@@ -104,13 +104,6 @@ fn free_class(start: Three, end: Three) -> Class
     }
 }
 
-// Whether the two are one class.
-fn is_same(class: Class, other: Class) -> bool
-    ensures { result ≡ same_class class other }
-{
-    class.code() == other.code()
-}
-
 impl SwitchingAlgebra for Class {
     ghost ops = { class_ops };
 
@@ -147,30 +140,19 @@ impl SwitchingAlgebra for Class {
     }
 
     fn and(self, other: Class) -> Class {
-        if is_same(self, Class::C000) || is_same(other, Class::C000) {
-            Class::C000
-        } else if is_same(self, Class::C111) {
-            other
-        } else if is_same(other, Class::C111) {
-            self
-        } else if self.is_clean() && is_same(self, other) {
-            self
-        } else {
-            free_class(self.start().and(other.start()), self.end().and(other.end()))
+        match (self, other) {
+            (Class::C000, _) | (_, Class::C000) => Class::C000,
+            (Class::C111, kept) | (kept, Class::C111) => kept,
+            _ if self.is_clean() && self == other => self,
+            _ => free_class(self.start().and(other.start()), self.end().and(other.end())),
         }
     }
 
     fn xor(self, other: Class) -> Class {
-        if is_same(self, Class::C000) {
-            other
-        } else if is_same(other, Class::C000) {
-            self
-        } else if is_same(self, Class::C111) {
-            other.not()
-        } else if is_same(other, Class::C111) {
-            self.not()
-        } else {
-            free_class(self.start().xor(other.start()), self.end().xor(other.end()))
+        match (self, other) {
+            (Class::C000, kept) | (kept, Class::C000) => kept,
+            (Class::C111, kept) | (kept, Class::C111) => kept.not(),
+            _ => free_class(self.start().xor(other.start()), self.end().xor(other.end())),
         }
     }
 }

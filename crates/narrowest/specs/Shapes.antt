@@ -6,10 +6,11 @@ use mathlib.Core.List.{List, [], ◌∷◌, ◌++◌}
 use Prim.Native.Nat.{ℕ, zero, suc, ◌≤◌}
 use native.Mathlib.Omega.{arith}
 use lib.Dec.{T, ltb, lt→ltb}
+use Rattle.std.proofs.Math.Facts.{yes_and}
 use Rattle.signals.specs.Waveform.{Waveform, rising_from, final}
 use Rattle.signals.specs.GateRule.{Pointwise}
-use Rattle.signals.proofs.Waveforms.{same_bool, from_both, rising_parts, from_rising_parts, rising_from_lower}
-use Rattle.signals.proofs.Apart.{apart, apart_output, apart_final, below, append_rising}
+use Rattle.signals.proofs.Waveforms.{same_bool, rising_parts, from_rising_parts, rising_from_lower}
+use Rattle.signals.proofs.Apart.{apart, apart_output, apart_final, below, append_rising, cond_keeps}
 
 -- how often a waveform flips
 pub data Amount : Type 0 where
@@ -43,11 +44,6 @@ amount_kept true false xs ys = refl
 amount_kept false true xs ys = amount_append xs []
 amount_kept false false xs ys = amount_append xs ys
 
--- what holds of no flips and of these holds of either
-cond_keeps : (P : List ℕ → Bool) (b : Bool) (xs : List ℕ) → T (P []) → T (P xs) → T (P (cond b [] xs))
-cond_keeps P true xs h k = h
-cond_keeps P false xs h k = k
-
 -- the waveform has this first and final value, flips as often as n says, and never before k
 pub record Shaped (k : ℕ) (s e : Bool) (n : Amount) (w : Waveform) : Type 0 where
   pub late : T (rising_from k w.flips)
@@ -68,7 +64,7 @@ beyond_below : (k : ℕ) (ts : List ℕ) → T (rising_from k ts) → T (below (
 beyond_below k [] r = tt
 beyond_below k (t ∷ ts) r =
     let p = rising_parts k t ts r in
-    from_both (ltb t _) (below _ ts) (lt→ltb t _ (beyond_start (suc t) ts p.1)) (beyond_below (suc t) ts p.1)
+    yes_and (ltb t _) (below _ ts) (lt→ltb t _ (beyond_start (suc t) ts p.1)) (beyond_below (suc t) ts p.1)
 
 -- and they rise
 rising_kept : (c d : Bool) (k : ℕ) (xs ys : List ℕ) → T (rising_from k xs) → T (rising_from (beyond k xs) ys) → T (rising_from k (cond c [] xs ++ cond d [] ys))

@@ -9,7 +9,7 @@ use Rattle.functions.specs.declared.function.Function.{Function}
 use Rattle.functions.specs.declared.function.Function.TheVariants.{Buf, Not, And, Nand, Or, Nor, Xor, Xnor}
 use Rattle.functions.specs.Function.{described, all_ones, some_one, odd_ones}
 use Rattle.waveform.specs.Algebra.{Ops, disj, folded_in, evaluated}
-use Rattle.waveform.specs.Narrowest.{Members, Contains, Narrowest}
+use Rattle.waveform.specs.Narrowest.{Members, Contains}
 use Rattle.waveform.specs.Contains.{Joins, all_joins, some_joins, odd_joins}
 use Rattle.waveform.specs.ClassSound.{inverted, at_inverted}
 
@@ -118,10 +118,3 @@ module _ {V : Type 0} (ops : Ops V) (stands : V → Waveform → Type 0) (reachi
   least Nor pins = inverse some_one false some_joins _ pins (disj_folds pins)
   least Xor pins = straight odd_ones false odd_joins _ pins (excl_folds pins)
   least Xnor pins = inverse odd_ones false odd_joins _ pins (excl_folds pins)
-
--- a value that contains every output and equals one that lies within each such value is the narrowest
-pub narrowest_from : {V : Type 0} (stands : V → Waveform → Type 0) (truth : List Bool → Bool) (pins : List V) (v r : V)
-    → ((u : V) → Contains stands truth pins u → (w : Waveform) → stands v w → stands u w)
-    → r ≡ v → Contains stands truth pins r → Narrowest stands truth pins r
-narrowest_from stands truth pins v r within e c =
-    record { contains = c; least = λ u all w s. within u all w (subst (λ x. stands x w) e s) }

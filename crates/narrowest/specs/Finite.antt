@@ -2,7 +2,8 @@
 use mathlib.Core.Path.{◌≡◌, refl}
 use mathlib.Core.Bool.{Bool, true, false, ◌&&◌}
 use lib.Dec.{T}
-use Rattle.signals.proofs.Waveforms.{same_bool, both_parts, from_both}
+use Rattle.std.proofs.Math.Facts.{and_yes, yes_and}
+use Rattle.signals.proofs.Waveforms.{same_bool}
 use Rattle.classes.specs.declared.three.Three.{Three}
 use Rattle.classes.specs.declared.three.Three.TheVariants.{Zero, One, Unknown}
 use Rattle.classes.specs.declared.class.Class.{Class}
@@ -26,11 +27,11 @@ abbrev pub at_booleans : (Bool → Bool) → Bool
 at_booleans p = p false && p true
 
 pub at_boolean : (p : Bool → Bool) → T (at_booleans p) → (b : Bool) → T (p b)
-at_boolean p h true = (both_parts (p false) (p true) h).1
-at_boolean p h false = (both_parts (p false) (p true) h).0
+at_boolean p h true = (and_yes (p false) (p true) h).1
+at_boolean p h false = (and_yes (p false) (p true) h).0
 
 pub at_booleans_lem : (p : Bool → Bool) → ((b : Bool) → T (p b)) → T (at_booleans p)
-at_booleans_lem p h = from_both (p false) (p true) (h false) (h true)
+at_booleans_lem p h = yes_and (p false) (p true) (h false) (h true)
 
 -- a test at one Boolean at least; the second is tried only where the first fails
 abbrev pub at_some : (Bool → Bool) → Bool
@@ -48,9 +49,9 @@ abbrev pub at_values : (Three → Bool) → Bool
 at_values p = p Zero && (p One && p Unknown)
 
 pub at_value : (p : Three → Bool) → T (at_values p) → (x : Three) → T (p x)
-at_value p h Zero = (both_parts (p Zero) _ h).0
-at_value p h One = (both_parts (p One) _ (both_parts (p Zero) _ h).1).0
-at_value p h Unknown = (both_parts (p One) _ (both_parts (p Zero) _ h).1).1
+at_value p h Zero = (and_yes (p Zero) _ h).0
+at_value p h One = (and_yes (p One) _ (and_yes (p Zero) _ h).1).0
+at_value p h Unknown = (and_yes (p One) _ (and_yes (p Zero) _ h).1).1
 
 -- a test at all thirteen classes, read by `for-each`
 abbrev pub at_classes : (Class → Bool) → Bool

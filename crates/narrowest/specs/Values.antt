@@ -3,8 +3,10 @@ use mathlib.Core.Path.{◌≡◌, refl, sym, ap}
 use mathlib.Core.Bool.{Bool, true, false, not, ◌&&◌}
 use mathlib.Core.List.{List, [], ◌∷◌}
 use lib.Dec.{T}
+use Rattle.std.proofs.Math.Bool.{not-not}
+use Rattle.std.proofs.Math.Facts.{and_yes}
 use Rattle.signals.specs.Waveform.{Waveform, constant}
-use Rattle.signals.proofs.Waveforms.{same_bool, both_parts}
+use Rattle.signals.proofs.Waveforms.{same_bool}
 use Rattle.functions.specs.declared.function.Function.{Function}
 use Rattle.classes.specs.declared.three.Three.{Three}
 use Rattle.functions.specs.Function as function
@@ -12,11 +14,12 @@ use Rattle.functions.specs.Function.{all_ones, some_one, odd_ones}
 use Rattle.classes.specs.Three.{described, Stands}
 use Rattle.waveform.specs.Algebra.{disj, evaluated}
 use Rattle.waveform.specs.Ops.{three_ops}
-use Rattle.waveform.specs.Narrowest.{Contains}
-use Rattle.waveform.specs.Contains.{not_not}
+use Rattle.waveform.specs.Narrowest.{Contains, Narrowest}
+use Rattle.waveform.specs.Contains.{evaluated_contains}
+use Rattle.waveform.specs.ThreeSound.{three_sound}
 use Rattle.waveform.specs.ClassSound.{gives, given}
-use Rattle.narrowest.proofs.Finite.{same_is, at_booleans, at_boolean, at_some, at_some_lem, at_values, at_value}
-use Rattle.narrowest.proofs.Reaching.{Reaching, Next, Inverses, least}
+use Rattle.narrowest.specs.Finite.{same_is, at_booleans, at_boolean, at_some, at_some_lem, at_values, at_value}
+use Rattle.narrowest.specs.Reaching.{Reaching, Next, Inverses, least}
 
 -- the constant of each Boolean that the value allows is among the outputs
 abbrev pub Reached : Three → (Waveform → Type 0) → Type 0
@@ -41,8 +44,8 @@ step f op table x y outs h b t =
     let entry : T (covers f x y (op x y) b) = at_boolean (covers f x y (op x y)) (at_value (λ v. at_booleans λ c. covers f x v (op x v) c) row y) b in
     let p = at_some_lem (λ p. at_some λ q. splits f x y b p q) (given ((described (op x y)).allows b) _ entry t) in
     let q = at_some_lem (splits f x y b p.0) p.1 in
-    let both = both_parts ((described x).allows p.0) _ q.1 in
-    let rest = both_parts ((described y).allows q.0) _ both.1 in
+    let both = and_yes ((described x).allows p.0) _ q.1 in
+    let rest = and_yes ((described y).allows q.0) _ both.1 in
     let e : f (p.0 ∷ q.0 ∷ []) ≡ b = same_is _ b rest.1 in (
       constant p.0,
       constant q.0,
@@ -61,7 +64,7 @@ turns x b = gives ((described (three_ops.neg x)).allows b) ((described x).allows
 neg_step : (x : Three) (outs : Waveform → Type 0) → Reached x outs → Reached (three_ops.neg x) (Inverses outs)
 neg_step x outs h b t =
     let entry : T (turns x b) = at_boolean (turns x) (at_value (λ u. at_booleans (turns u)) tt x) b in
-    (constant (not b), h (not b) (given ((described (three_ops.neg x)).allows b) _ entry t), ap constant (not_not b))
+    (constant (not b), h (not b) (given ((described (three_ops.neg x)).allows b) _ entry t), ap constant (sym (not-not b)))
 
 only_zero : Reached three_ops.zero (λ w. w ≡ constant false)
 only_zero true t = absurd t
@@ -88,3 +91,7 @@ three_reaching =
 pub three_least : (f : Function) (pins : List Three) (u : Three) → Contains Stands (function.described f).truth pins u → (w : Waveform)
     → Stands (evaluated three_ops f pins) w → Stands u w
 three_least f pins u all = least three_ops Stands three_reaching f pins u all
+
+-- so it gives the narrowest value
+pub three_narrowest : (f : Function) (pins : List Three) → Narrowest Stands (function.described f).truth pins (evaluated three_ops f pins)
+three_narrowest f pins = record { contains = evaluated_contains three_ops Stands three_sound f pins; least = three_least f pins }

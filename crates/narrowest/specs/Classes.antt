@@ -5,8 +5,10 @@ use mathlib.Core.List.{List, [], ◌∷◌}
 use Prim.Native.Nat.{ℕ}
 use native.Mathlib.Omega.{arith}
 use lib.Dec.{T}
+use Rattle.std.proofs.Math.Bool.{not-not}
+use Rattle.std.proofs.Math.Facts.{and_yes, yes_and}
 use Rattle.signals.specs.Waveform.{Waveform, Rising, constant, final}
-use Rattle.signals.proofs.Waveforms.{same_bool, both_parts, from_both, rising_from_lower}
+use Rattle.signals.proofs.Waveforms.{same_bool, rising_from_lower}
 use Rattle.signals.proofs.Apart.{apart, one_pin_all}
 use Rattle.functions.specs.declared.function.Function.{Function}
 use Rattle.classes.specs.declared.class.Class.{Class}
@@ -16,13 +18,13 @@ use Rattle.classes.specs.Three as three
 use Rattle.classes.specs.Class.{Middle, low, high, rise, fall, free, moves, described, In}
 use Rattle.waveform.specs.Algebra.{disj, evaluated}
 use Rattle.waveform.specs.Ops.{class_ops}
-use Rattle.waveform.specs.Narrowest.{Contains}
+use Rattle.waveform.specs.Narrowest.{Contains, Narrowest}
 use Rattle.waveform.specs.Classes.{for_each}
-use Rattle.waveform.specs.Contains.{not_not}
-use Rattle.waveform.specs.ClassSound.{gives, given, inverted, swapped}
-use Rattle.narrowest.proofs.Finite.{gives_from, same_is, at_booleans, at_boolean, at_booleans_lem, at_some, at_some_lem, at_classes}
-use Rattle.narrowest.proofs.Reaching.{Reaching, Next, Inverses, least}
-use Rattle.narrowest.proofs.Shapes.{Amount, never, once, often, amount, Shaped, beyond, possible, made, made_shaped, amount_apart, apart_pointwise, apart_shaped}
+use Rattle.waveform.specs.Contains.{evaluated_contains}
+use Rattle.waveform.specs.ClassSound.{gives, given, inverted, swapped, class_sound}
+use Rattle.narrowest.specs.Finite.{gives_from, same_is, at_booleans, at_boolean, at_booleans_lem, at_some, at_some_lem, at_classes}
+use Rattle.narrowest.specs.Reaching.{Reaching, Next, Inverses, least}
+use Rattle.narrowest.specs.Shapes.{Amount, never, once, often, amount, Shaped, beyond, possible, made, made_shaped, amount_apart, apart_pointwise, apart_shaped}
 
 -- the same amount of flips
 abbrev same_amount : Amount → Amount → Bool
@@ -52,9 +54,9 @@ abbrev at_amounts : (Amount → Bool) → Bool
 at_amounts p = p never && (p once && p often)
 
 at_amount : (p : Amount → Bool) → T (at_amounts p) → (n : Amount) → T (p n)
-at_amount p h never = (both_parts (p never) _ h).0
-at_amount p h once = (both_parts (p once) _ (both_parts (p never) _ h).1).0
-at_amount p h often = (both_parts (p once) _ (both_parts (p never) _ h).1).1
+at_amount p h never = (and_yes (p never) _ h).0
+at_amount p h once = (and_yes (p once) _ (and_yes (p never) _ h).1).0
+at_amount p h often = (and_yes (p once) _ (and_yes (p never) _ h).1).1
 
 -- how often a waveform with this middle letter flips; where the letter leaves it open: often
 abbrev asked : Middle → Amount
@@ -102,14 +104,14 @@ moves_fits free b ts = refl
 
 in_holds : (c : Class) (w : Waveform) → In c w → T (holds c w.first (amount w.flips) (final w))
 in_holds c w i =
-    from_both (allowed c w.first (final w)) _
-    (from_both ((three.described (described c).start).allows w.first) _ i.starts i.ends)
+    yes_and (allowed c w.first (final w)) _
+    (yes_and ((three.described (described c).start).allows w.first) _ i.starts i.ends)
     (subst T (moves_fits (described c).middle w.first w.flips) i.moving)
 
 holds_in : (c : Class) (w : Waveform) → Rising w → T (holds c w.first (amount w.flips) (final w)) → In c w
 holds_in c w r h =
-    let p = both_parts (allowed c w.first (final w)) _ h in
-    let q = both_parts ((three.described (described c).start).allows w.first) _ p.0 in
+    let p = and_yes (allowed c w.first (final w)) _ h in
+    let q = and_yes ((three.described (described c).start).allows w.first) _ p.0 in
     record { rises = r; starts = q.0; moving = subst T (sym (moves_fits (described c).middle w.first w.flips)) p.1; ends = q.1 }
 
 shaped_rising : (k : ℕ) (s e : Bool) (n : Amount) (w : Waveform) → Shaped k s e n w → Rising w
@@ -162,7 +164,7 @@ own_shapes c s e = at_boolean (own_shape c s) (at_boolean (λ b. at_booleans (ow
 
 own : (c : Class) → Reached c (In c)
 own c k s e t =
-    let p = both_parts (possible s (flips_of c) e) _ (given (allowed c s e) _ (own_shapes c s e) t) in
+    let p = and_yes (possible s (flips_of c) e) _ (given (allowed c s e) _ (own_shapes c s e) t) in
     let a = made_shaped k s (flips_of c) e p.0 in
     (made k s (flips_of c) e, shaped_in c k s e (flips_of c) _ a p.1, a)
 
@@ -229,9 +231,9 @@ guarded false b h = absurd h
 ends_parts : (f : List Bool → Bool) (x y : Class) (s e p q p' q' : Bool) → T (ends f x y s e p q p' q')
     → T (allowed x p q) × T (allowed y p' q') × (f (p ∷ p' ∷ []) ≡ s) × (f (q ∷ q' ∷ []) ≡ e)
 ends_parts f x y s e p q p' q' h =
-    let (left, h₁) = both_parts (allowed x p q) _ h in
-    let (right, h₂) = both_parts (allowed y p' q') _ h₁ in
-    let (begin, end) = both_parts (same_bool (f (p ∷ p' ∷ [])) s) _ h₂ in
+    let (left, h₁) = and_yes (allowed x p q) _ h in
+    let (right, h₂) = and_yes (allowed y p' q') _ h₁ in
+    let (begin, end) = and_yes (same_bool (f (p ∷ p' ∷ [])) s) _ h₂ in
     (left, right, same_is _ s begin, same_is _ e end)
 
 reshaped : {k : ℕ} {s e s' e' : Bool} {m n : Amount} {w : Waveform} → s ≡ s' → e ≡ e' → m ≡ n → Shaped k s e m w → Shaped k s' e' n w
@@ -254,7 +256,7 @@ module _ (f : List Bool → Bool) (x y z : Class) (outs : Waveform → Type 0) (
   joint second_pin t =
       let (u, i, b) = own y k p' q' right in
       let (w, o, a) = h (beyond k u.flips) p q left in
-      let (count, even) = both_parts (same_amount (amount_apart f p q' (flips_of y) (flips_of x)) (flips_of z)) _ t in
+      let (count, even) = and_yes (same_amount (amount_apart f p q' (flips_of y) (flips_of x)) (flips_of z)) _ t in
       let turn = exchanged f even in (
         apart f u w,
         (w, u, o, i, swapped f turn u w (apart f u w) (apart_pointwise f k p' q' p q _ _ u w b a)),
@@ -262,10 +264,10 @@ module _ (f : List Bool → Bool) (x y z : Class) (outs : Waveform → Type 0) (
       )
   joint copy t =
       let (w, o, a) = h k p q left in
-      let (count, t₁) = both_parts (same_amount (flips_of x) (flips_of z)) _ t in
-      let (inside, t₂) = both_parts (holds y p (flips_of x) q) _ t₁ in
-      let (alike, t₃) = both_parts (same_bool p p') _ t₂ in
-      let (alike', keep) = both_parts (same_bool q q') _ t₃ in
+      let (count, t₁) = and_yes (same_amount (flips_of x) (flips_of z)) _ t in
+      let (inside, t₂) = and_yes (holds y p (flips_of x) q) _ t₁ in
+      let (alike, t₃) = and_yes (same_bool p p') _ t₂ in
+      let (alike', keep) = and_yes (same_bool q q') _ t₃ in
       let same = kept f keep in (
         w,
         (
@@ -301,14 +303,14 @@ turns c s e = same_amount (flips_of c) (flips_of (class_ops.neg c)) && gives (al
 neg_step : (x : Class) (outs : Waveform → Type 0) → Reached x outs → Reached (class_ops.neg x) (Inverses outs)
 neg_step x outs h k s e t =
     let entry = at_boolean (turns x s) (at_boolean (λ b. at_booleans (turns x b)) (for_each (λ c. at_booleans λ b. at_booleans (turns c b)) tt x) s) e in
-    let (count, allow) = both_parts (same_amount (flips_of x) (flips_of (class_ops.neg x))) _ entry in
+    let (count, allow) = and_yes (same_amount (flips_of x) (flips_of (class_ops.neg x))) _ entry in
     let (w, o, a) = h k (not s) (not e) (given (allowed (class_ops.neg x) s e) _ allow t) in (
       inverted w,
       (w, o, refl),
       record {
         late = a.late;
-        starts = ap not a.starts ∙ sym (not_not s);
-        ends = one_pin_all not w.first w.flips ∙ (ap not a.ends ∙ sym (not_not e));
+        starts = ap not a.starts ∙ not-not s;
+        ends = one_pin_all not w.first w.flips ∙ (ap not a.ends ∙ not-not e);
         counts = a.counts ∙ amount_is _ _ count;
       },
     )
@@ -340,3 +342,7 @@ class_reaching =
 pub class_least : (f : Function) (pins : List Class) (u : Class) → Contains In (function.described f).truth pins u → (w : Waveform)
     → In (evaluated class_ops f pins) w → In u w
 class_least f pins u all = least class_ops In class_reaching f pins u all
+
+-- so it gives the narrowest class
+pub class_narrowest : (f : Function) (pins : List Class) → Narrowest In (function.described f).truth pins (evaluated class_ops f pins)
+class_narrowest f pins = record { contains = evaluated_contains class_ops In class_sound f pins; least = class_least f pins }
