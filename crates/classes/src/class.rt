@@ -5,7 +5,7 @@ ghost use Rattle.classes.specs.Class.{described, is_clean, is_constant, letters}
 use crate::three::Three;
 use std::fmt;
 
-#[derive(Clone, Copy, PartialEq, Eq, Debug)]
+#[derive(Clone, Copy, PartialEq, Eq, Debug, Default)]
 pub enum Class {
     C000,
     C111,
@@ -19,6 +19,8 @@ pub enum Class {
     C1XX,
     CXX0,
     CXX1,
+    // every waveform
+    #[default]
     CXXX,
 }
 
