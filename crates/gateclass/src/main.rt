@@ -3,21 +3,10 @@
 // function. Bytes that are no text are read as a character that no word has.
 #![tactic(auto)]
 
+use answers::answer_lines;
 use gatelines::class_of_line;
 use std::io;
-use std::io::Read;
 
 fn main(rt: HostRuntime) -> io::Result<()> {
-    let mut bytes = Vec::new(rt.alloc());
-    let _ = rt.stdin().read_to_end(&mut bytes)?;
-    let text = String::from_utf8_lossy(rt.alloc(), &bytes)?;
-    let mut number = 0usize;
-    for line in text.lines() {
-        number = number.saturating_add(1);
-        match class_of_line(line) {
-            Ok(class) => println!(rt; "{class}")?,
-            Err(fault) => println!(rt; "line {number}: {fault}")?,
-        }
-    }
-    Ok(())
+    answer_lines(&rt, class_of_line)
 }

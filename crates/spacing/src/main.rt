@@ -4,30 +4,35 @@
 // by rising second input. Bytes that are no text are read as a character that no number has.
 #![tactic(auto)]
 
+use answers::answer_lines;
 use ordering::{OrderSource, Spaced};
-use spacinglines::read_line;
-use std::io;
-use std::io::Read;
+use separations::SeparationFault;
+use spacinglines::{Line, LineFault, read_line};
+use std::{fmt, io};
 
-fn main(rt: HostRuntime) -> io::Result<()> {
-    let mut bytes = Vec::new(rt.alloc());
-    let _ = rt.stdin().read_to_end(&mut bytes)?;
-    let text = String::from_utf8_lossy(rt.alloc(), &bytes)?;
-    let mut source = Spaced::new();
-    let mut number = 0usize;
-    for line in text.lines() {
-        number = number.saturating_add(1);
-        match read_line(line) {
-            Ok(separation) => match source.separate(separation.a, separation.b, separation.s) {
-                Ok(()) => println!(rt; "ok")?,
-                Err(fault) => {
-                    let refusal = fault.number();
-                    println!(rt; "no {refusal}")?;
-                }
-            },
-            Err(fault) => println!(rt; "line {number}: {fault}")?,
+// What comes of a separation that a source is given.
+#[derive(Drop)]
+struct Reply(Result<(), SeparationFault>);
+
+impl fmt::Display for Reply {
+    fn fmt<W: fmt::Write>(&self, f: &mut fmt::Formatter<W>) -> fmt::Result {
+        match self.0 {
+            Ok(()) => write!(f, "ok"),
+            Err(fault) => {
+                let refusal = fault.number();
+                write!(f, "no {refusal}")
+            }
         }
     }
+}
+
+fn main(rt: HostRuntime) -> io::Result<()> {
+    let mut source = Spaced::new();
+    answer_lines(&rt, |line| -> Result<Reply, LineFault> {
+        let Line { a, b, s } = read_line(line)?;
+        Ok(Reply(source.separate(a, b, s)))
+    })?;
+    // the source tells of one pair of inputs at a time, and lists none
     for a in 0..16u8 {
         for b in 0..16u8 {
             if let Some(s) = source.spacing(a, b) {
