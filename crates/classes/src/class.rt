@@ -8,7 +8,7 @@ use std::fmt;
 use std::str::FromStr;
 
 // in the order of their codes
-#[derive(Clone, Copy, PartialEq, Eq, Hash, Debug)]
+#[derive(Clone, Copy, PartialEq, Eq, Hash, Debug, Default)]
 pub enum Class {
     C000,
     C111,
@@ -22,6 +22,8 @@ pub enum Class {
     C1XX,
     CXX0,
     CXX1,
+    // every waveform
+    #[default]
     CXXX,
 }
 

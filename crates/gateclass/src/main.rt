@@ -3,21 +3,20 @@
 // function. Bytes that are no text are read as a character that no word has.
 #![tactic(auto)]
 
+use answers::Answer;
 use gatelines::class_of_line;
 use std::io;
 use std::io::Read;
 
+// The loop stands in each program that answers lines: a function that takes what is done with a line would have to ask of its
+// caller that it may be called.
 fn main(rt: HostRuntime) -> io::Result<()> {
     let mut bytes = Vec::new(rt.alloc());
     let _ = rt.stdin().read_to_end(&mut bytes)?;
     let text = String::from_utf8_lossy(rt.alloc(), &bytes)?;
-    let mut number = 0usize;
-    for line in text.lines() {
-        number = number.saturating_add(1);
-        match class_of_line(line) {
-            Ok(class) => println!(rt; "{class}")?,
-            Err(fault) => println!(rt; "line {number}: {fault}")?,
-        }
+    for (number, line) in (1u64..).zip(text.lines()) {
+        let outcome = class_of_line(line);
+        println!(rt; "{}", Answer { number, outcome })?;
     }
     Ok(())
 }

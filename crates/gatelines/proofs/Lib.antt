@@ -1,3 +1,2 @@
 -- The lemmas of this crate, by subject.
 pub mod Pins
-pub mod Gates

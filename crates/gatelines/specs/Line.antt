@@ -1,5 +1,5 @@
 -- What a line says: its words name a gate function and the classes of its pins. Assumes nothing.
-use Rattle.std.specs.Prelude.{◌≡◌, ℕ, ◌<◌, ◌≤◌, T, List, ◌∷◌, map, length, take, Ok, Err, Result, ◌≢◌}
+use Rattle.std.specs.Prelude.{◌≡◌, ℕ, ◌<◌, T, List, ◌∷◌, map, length, Ok, Err, Result, ◌≢◌}
 use Rattle.classes.specs.declared.class.Class.{Class}
 use Rattle.functions.specs.declared.function.Function.{Function}
 use Rattle.classes.specs.Class.{letters}
@@ -27,6 +27,9 @@ Says text (Err UnknownClass) =
 Says text (Err TooFewPins) = (f : Function) × (cs : List Class) × Gate text f cs × (length cs < (function.described f).fewest)
 Says text (Err TooManyPins) = (f : Function) × (cs : List Class) × Gate text f cs × ((function.described f).most < length cs)
 
--- the classes of these words stand at the front of the array, if it has room for all of them
-abbrev pub PinsRead : List (List ℕ) → List Class → ℕ → Type 0
-PinsRead ws pins n = (cs : List Class) × Classes ws cs × (length cs ≡ n) × (n ≤ 8 → take n pins ≡ cs)
+-- why the words give no pins: some word is no class, or there are more than eight
+abbrev pub NoPins : List (List ℕ) → LineFault → Type 0
+NoPins ws UnknownClass = (cs : List Class) → Classes ws cs → ⊥
+NoPins ws TooManyPins = (cs : List Class) × Classes ws cs × (8 < length cs)
+NoPins ws UnknownFunction = ⊥
+NoPins ws TooFewPins = ⊥

@@ -2,6 +2,7 @@
 ghost use Rattle.std.specs.Prelude.{◌≡◌, Some};
 ghost use Rattle.gatelines.specs.Fault.{fault_text};
 
+use std::error::Error;
 use std::fmt;
 
 #[derive(Clone, Copy, PartialEq, Eq, Debug)]
@@ -27,6 +28,7 @@ impl LineFault {
     }
 }
 
+// Written by hand: what the derive of `thiserror` writes states no output, and the text of each fault is proved.
 impl fmt::Display for LineFault {
     ghost output = { λ e. Some (fault_text e) };
 
@@ -35,3 +37,5 @@ impl fmt::Display for LineFault {
         write!(f, "{text}")
     }
 }
+
+impl Error for LineFault {}

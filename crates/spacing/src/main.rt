@@ -4,29 +4,36 @@
 // by rising second input. Bytes that are no text are read as a character that no number has.
 #![tactic(auto)]
 
+use answers::Answer;
 use ordering::{OrderSource, Spaced};
-use spacinglines::read_line;
-use std::io;
+use separations::SeparationFault;
+use spacinglines::{Line, read_line};
 use std::io::Read;
+use std::{fmt, io};
 
+// What comes of a separation that a source is given.
+#[derive(Drop)]
+struct Reply(Result<(), SeparationFault>);
+
+impl fmt::Display for Reply {
+    fn fmt<W: fmt::Write>(&self, f: &mut fmt::Formatter<W>) -> fmt::Result {
+        match self.0 {
+            Ok(()) => write!(f, "ok"),
+            Err(fault) => write!(f, "no {}", fault.refusal().number),
+        }
+    }
+}
+
+// The loop stands in each program that answers lines: a function that takes what is done with a line would have to ask of its
+// caller that it may be called.
 fn main(rt: HostRuntime) -> io::Result<()> {
     let mut bytes = Vec::new(rt.alloc());
     let _ = rt.stdin().read_to_end(&mut bytes)?;
     let text = String::from_utf8_lossy(rt.alloc(), &bytes)?;
     let mut source = Spaced::new();
-    let mut number = 0usize;
-    for line in text.lines() {
-        number = number.saturating_add(1);
-        match read_line(line) {
-            Ok(separation) => match source.separate(separation.a, separation.b, separation.s) {
-                Ok(()) => println!(rt; "ok")?,
-                Err(fault) => {
-                    let refusal = fault.number();
-                    println!(rt; "no {refusal}")?;
-                }
-            },
-            Err(fault) => println!(rt; "line {number}: {fault}")?,
-        }
+    for (number, line) in (1u64..).zip(text.lines()) {
+        let outcome = read_line(line).map(|Line { a, b, s }| Reply(source.separate(a, b, s)));
+        println!(rt; "{}", Answer { number, outcome })?;
     }
     for a in 0..16u8 {
         for b in 0..16u8 {

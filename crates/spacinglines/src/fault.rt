@@ -2,9 +2,10 @@
 ghost use Rattle.std.specs.Prelude.{◌≡◌, Some};
 ghost use Rattle.spacinglines.specs.Fault.{fault_text};
 
+use std::error::Error;
 use std::fmt;
 
-#[derive(Clone, Copy)]
+#[derive(Clone, Copy, PartialEq, Eq, Debug)]
 pub enum LineFault {
     // more or fewer words than three
     NotThree,
@@ -29,6 +30,7 @@ impl LineFault {
     }
 }
 
+// Written by hand: what the derive of `thiserror` writes states no output, and the text of each fault is proved.
 impl fmt::Display for LineFault {
     ghost output = { λ e. Some (fault_text e) };
 
@@ -37,3 +39,5 @@ impl fmt::Display for LineFault {
         write!(f, "{text}")
     }
 }
+
+impl Error for LineFault {}

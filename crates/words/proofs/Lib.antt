@@ -1,2 +1,2 @@
 -- The lemmas of this crate, by subject.
-pub mod Words
+pub mod Parts

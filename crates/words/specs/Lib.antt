@@ -1,2 +1,3 @@
 -- The definitions that the contracts of this crate cite, by subject.
+pub mod Left
 pub mod Words

@@ -1,30 +1,51 @@
 // Words of a text, one after the other.
 #![tactic(auto)]
 
-ghost use Rattle.std.specs.Prelude.{◌≡◌, ◌<◌, not, [], ◌∷◌, length, MatchOption, ◌==◌};
+ghost use Rattle.std.specs.Prelude.{◌≡◌};
+ghost use Rattle.std.specs.Iterator.{YieldsFirstRef, item_count};
 ghost use Rattle.words.specs.Words.{words};
 
-// Whether a part of a text is a word: it is not empty.
-fn is_word(part: &str) -> bool
-    ensures { result ≡ not (length part.now == 0) }
-{
-    !part.is_empty()
+use std::marker::Model;
+use std::str::Split;
+
+// The words that are left of a text. A contract sees it as the list of these words.
+#[derive(Drop)]
+pub struct Words<'a> {
+    parts: Split<'a, char>,
 }
 
-// The first word of a text and what follows it, or none if only spaces are left.
-pub fn next_word(text: &str) -> Option<(&str, &str)>
-    ensures { MatchOption result (words text.now ≡ []) (λ p. (words text.now ≡ (p.0.now ∷ words p.1.now)) × (length p.1.now < length text.now)) }
-{
-    let mut rest = text;
-    while let Some((word, after)) = rest.split_once(' ') {
-        if is_word(word) {
-            return Some((word, after));
+impl<'a> Model for Words<'a> {
+    ghost use Rattle.std.specs.Prelude.{◌≡◌, ℕ, List};
+    ghost use Rattle.std.specs.Str.Iter.{split_pattern};
+    ghost use Rattle.words.specs.Left.{words_left};
+
+    ghost Value = { List (List ℕ) };
+
+    ghost view = { λ w. words_left w.parts };
+
+    ghost invariant = { λ w. split_pattern w.parts ≡ 32 };
+}
+
+impl<'a> Words<'a> {
+    // The words of this text.
+    pub fn new(text: &'a str) -> Words<'a>
+        ensures { result ≡ words text.now }
+    {
+        Words {
+            parts: text.split(' '),
         }
-        rest = after;
     }
-    if is_word(rest) {
-        Some((rest, ""))
-    } else {
-        None
+}
+
+impl<'a> Iterator for Words<'a> {
+    type Item = &'a str;
+
+    ghost next_gives = { YieldsFirstRef (λ left. left) };
+
+    ghost remaining = { item_count (λ left. left) };
+
+    // The next part between spaces that is not empty.
+    fn next(&mut self) -> Option<&'a str> {
+        self.parts.find(|part| !part.is_empty())
     }
 }

@@ -1,19 +1,14 @@
 -- A word more is a class more, or shows that the words are not all classes.
-use Rattle.std.proofs.Common.{arith, rules}
-use Rattle.words.specs.Words.{words}
-use Rattle.gatelines.proofs.Pins.{held_more, held_bad}
+use Rattle.std.proofs.Common.{ap}
+use Rattle.std.proofs.lemmas.Result.{on_err_weaker}
+use Rattle.gatelines.proofs.Pins.{held_more, none_lettered}
 use Rattle.gatelines.proofs.line.read_pins.Goals as goal
 
-pub returns-in_default-parse : goal.returns-in_default-parse
-returns-in_default-parse c =
-    held_bad (words c.args.text.now) (words c.loop-word.rest.now) (words c.in-Some.after.now) c.in-Some.word.now c.loop-word.pins c.loop-word.count
-    c.in-Some.ensures.0 c.in_default-parse.ensures.value c.loop-word.invariant.3
+pub returns-in_default : goal.returns-in_default
+returns-in_default c =
+    none_lettered _ _ _ c.in-Some.word.now c.loop-word.pins.items c.loop-word.pushed c.in-Some.ensures.steps c.in_default.ensures.value c.loop-word.invariant
 
 pub loop-word-preserved : goal.loop-word-preserved
-loop-word-preserved c = (
-  search rules,
-  omega (arith, c.in-Some.ensures.1),
-  c.put.array_long,
-  held_more (words c.args.text.now) (words c.loop-word.rest.now) (words c.in-Some.after.now) c.in-Some.word.now c.loop-word.pins c.put.new.pins c.loop-word.count c.in-Ok.class
-      c.loop-word.invariant.2 c.in-Some.ensures.0 c.in-Ok.ensures.value c.put.ensures c.loop-word.invariant.3,
-)
+loop-word-preserved c =
+    held_more _ _ _ c.in-Some.word.now c.loop-word.pins.items _ c.loop-word.pushed _ c.in-Ok.class c.in-Some.ensures.steps c.in-Ok.ensures.value
+    c.try_push-pushed.ensures.variant c.try_push-pushed.ensures.ok (on_err_weaker _ (ap (λ v. v.items)) c.try_push-pushed.ensures.err) c.try_push-pushed.ensures.full c.loop-word.invariant
