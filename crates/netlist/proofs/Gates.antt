@@ -2,6 +2,9 @@
 use Rattle.std.proofs.Common.{◌≡◌, ℕ, ◌+◌, ◌<◌, T, List, [], ◌∷◌, ◌++◌, length, get_or, drop, Some, None, Option, sym, refl, ap, ◌∙◌, subst, append_assoc, append-nil, add-zero, add_assoc, arith, length-append, drop-drop}
 use mathlib.Core.List.{map-append}
 use Rattle.std.proofs.lemmas.Bool.{and_parts, and_from}
+use Rattle.std.proofs.lemmas.List.{length-map}
+use Rattle.records.specs.declared.reader.Reader.{Reader}
+use Rattle.records.specs.Next.{rest}
 use Rattle.netlist.specs.declared.fault.CircuitFault.{CircuitFault}
 use Rattle.netlist.specs.declared.gate.Gate.{Gate}
 use Rattle.netlist.specs.Circuit.{PlainGate, valid_gate, valid_gates}
@@ -10,7 +13,7 @@ use Rattle.records.specs.Record.{length_of, payload_of}
 use Rattle.netlist.specs.Rules.{Rule, gate, first_broken}
 use Rattle.netlist.specs.Layout.{gate_bytes, gates_bytes}
 use Rattle.netlist.specs.Fault.{rule_of, place_of}
-use Rattle.netlist.specs.Step.{GatesTaken, Describes, Stops, StopsBy, Tells, TellsRule, place_told}
+use Rattle.netlist.specs.Step.{GatesTaken, Passed, Describes, Stops, StopsBy, Tells, TellsRule, place_told}
 use Rattle.netlist.proofs.Decode.{so, yes_so}
 use Rattle.netlist.proofs.Written.{gate_written, gate_valid, gate_size}
 
@@ -46,6 +49,14 @@ taken_more bytes place own gs at next h taken follows held low0 low2 is =
           taken.stands ∙ ap (λ x. gates_bytes gs ++ x) (written ∙ ap (λ x. gate_bytes h ++ x) behind) ∙ sym (append_assoc (gates_bytes gs) (gate_bytes h) (drop after bytes)) ∙ ap (λ x. x ++ drop after bytes) (sym more);
       moved = omega (arith, taken.moved, ap length more, length-append (gates_bytes gs) (gate_bytes h), size);
     }
+
+-- the reader takes one more gate behind those taken so far
+pub passed_more : (start before after : Reader) (own next : ℕ) (gs : List Gate) (g : Gate) → before.bytes.now ≡ start.bytes.now → GatesTaken start.bytes.now start.at own (plain_gates gs) before.at → next ≡ own + length gs → Passed (gate next) before after → Describes (payload_of (rest before)) (plain_gate g) → GatesTaken start.bytes.now start.at own (plain_gates (gs ++ g ∷ [])) after.at
+passed_more start before after own next gs g same taken follows passed is =
+    let here = subst (λ bs. GatesTaken bs start.at own (plain_gates gs) before.at) (sym same) taken in
+    let count : next ≡ own + length (plain_gates gs) = omega (arith, follows, length-map gs plain_gate) in
+    let more = taken_more before.bytes.now start.at own (plain_gates gs) before.at next (plain_gate g) here count passed.kept passed.low_length passed.low_kind is in
+    rw (plain_more gs g, passed.moved) (subst (λ bs. GatesTaken bs start.at own (plain_gates gs ++ plain_gate g ∷ []) (before.at + 4 + length_of (rest before))) same more)
 
 -- the record behind the gates taken so far breaks a rule
 stops_by : (o : Option Rule) (told : ℕ) (bytes : List ℕ) (place own announced : ℕ) (gs : List PlainGate) (at : ℕ) → GatesTaken bytes place own gs at → length gs < announced → TellsRule o (first_broken (gate (own + length gs)) (drop at bytes)) → told ≡ place_told o at → StopsBy o told bytes place own announced

@@ -21,7 +21,7 @@ fn main(rt: HostRuntime) -> io::Result<()> {
             Ok(separation) => match source.separate(separation.a, separation.b, separation.s) {
                 Ok(()) => println!(rt; "ok")?,
                 Err(fault) => {
-                    let refusal = fault.number();
+                    let refusal = fault.refusal().number;
                     println!(rt; "no {refusal}")?;
                 }
             },
