@@ -57,14 +57,3 @@ passed_more start before after own next gs g same taken follows passed is =
     let count : next ≡ own + length (plain_gates gs) = omega (arith, follows, length-map gs plain_gate) in
     let more = taken_more before.bytes.now start.at own (plain_gates gs) before.at next (plain_gate g) here count passed.kept passed.low_length passed.low_kind is in
     rw (plain_more gs g, passed.moved) (subst (λ bs. GatesTaken bs start.at own (plain_gates gs ++ plain_gate g ∷ []) (before.at + 4 + length_of (rest before))) same more)
-
--- the record behind the gates taken so far breaks a rule
-stops_by : (o : Option Rule) (told : ℕ) (bytes : List ℕ) (place own announced : ℕ) (gs : List PlainGate) (at : ℕ) → GatesTaken bytes place own gs at → length gs < announced → TellsRule o (first_broken (gate (own + length gs)) (drop at bytes)) → told ≡ place_told o at → StopsBy o told bytes place own announced
-stops_by None told bytes place own announced gs at taken fewer broken there = tt
-stops_by (Some r) told bytes place own announced gs at taken fewer broken there =
-    record { gates = gs; after = at; fewer = fewer; taken = taken; broken = broken; there = there }
-
-pub stops : (e : CircuitFault) (bytes : List ℕ) (place own announced : ℕ) (gs : List PlainGate) (at next : ℕ) → GatesTaken bytes place own gs at → length gs < announced → next ≡ own + length gs → Tells e (first_broken (gate next) (drop at bytes)) at → Stops e bytes place own announced
-stops e bytes place own announced gs at next taken fewer is tells =
-    stops_by (rule_of e) (place_of e) bytes place own announced gs at taken fewer
-    (subst (λ n. TellsRule (rule_of e) (first_broken (gate n) (drop at bytes))) is tells.0) tells.1

@@ -19,11 +19,13 @@ use functions::Function;
 use records::{Reader, Record};
 use std::alloc::Global;
 
-// the most inputs and gates that a circuit may have, and the most pins of a gate
+// the most inputs that a circuit may have
 const MOST_INPUTS: u8 = 16;
 
+// the most gates that a circuit may have
 const MOST_GATES: u8 = 240;
 
+// the most pins that a gate may have
 const MOST_PINS: usize = 8;
 
 // Whether every pin is a net below the limit.
@@ -33,7 +35,7 @@ fn all_below(pins: &[Net], limit: usize) -> bool
     pins.iter().all(|pin| usize::from(*pin) < limit)
 }
 
-// The function of this code for so many pins.
+// The function of this code for so many pins. The pin counts stand at the codes, since a wrong count and a wrong code are refused apart.
 fn function_of(place: usize, code: u8, pins: usize) -> Result<Function, CircuitFault>
     ensures { MatchResult result (λ f. ((described f).code ≡ code) × (nat_le code 7 ≡ true) × (count_due code pins ≡ true)) (λ e. FunctionFault e place code pins) }
 {
@@ -60,7 +62,7 @@ struct GateFields<'a> {
     pins: &'a [Net],
 }
 
-// The fields of a gate's payload, or none if it has no byte for a pin or too many.
+// The fields of a gate's payload, or none if it has no byte for a pin or too many. Each byte has a name, so that none is read by an index.
 fn fields(payload: &[u8]) -> Option<GateFields<'_>>
     ensures { Options.MatchOption result (size_due (gate 0) (length payload.now) ≡ false) (λ f. FieldsOf payload.now f) }
 {
@@ -179,7 +181,10 @@ impl Circuit {
         let head = read_head(&mut reader)?;
         let gates = read_gates(heap, &mut reader, head)?;
         let used = reader.place();
-        let inputs = head.inputs;
-        Ok((Circuit { inputs, gates }, used))
+        let circuit = Circuit {
+            inputs: head.inputs,
+            gates,
+        };
+        Ok((circuit, used))
     }
 }

@@ -28,15 +28,6 @@ returns-in_err-gates c =
       layout = layout_determines;
     }
 
-pub invariant_of-result : goal.invariant_of-result
-invariant_of-result c =
-    let taken = c.in_ok-gates.ensures.taken in
-    let gates = c.in_ok-gates.gates in
-    let all = length-map (vec_items gates) plain_gate ∙ sym gates.ok.0 ∙ taken.1 in
-    record {
-      valid = (file_accepted c.args.bytes.now c.new-reader.result c.read_head.new.reader c.in_ok-head.head (plain_gates (vec_items gates)) c.read_gates.new.reader.at c.new-reader.ensures.place c.new-reader.ensures.bytes c.in_ok-head.ensures.taken taken.0 all).valid;
-    }
-
 pub returns : goal.returns
 returns c =
     let taken = c.in_ok-gates.ensures.taken in
