@@ -3,6 +3,7 @@ use Rattle.std.proofs.Common.{◌≡◌, ℕ, ◌+◌, ◌<◌, T, List, [], ◌
 use mathlib.Core.List.{map-append}
 use Rattle.std.proofs.lemmas.Bool.{and_parts, and_from}
 use Rattle.std.proofs.lemmas.List.{length-map}
+use Rattle.std.proofs.lemmas.Grind.{common_steps}
 use Rattle.records.specs.declared.reader.Reader.{Reader}
 use Rattle.records.specs.Next.{rest}
 use Rattle.netlist.specs.declared.fault.CircuitFault.{CircuitFault}
@@ -19,14 +20,11 @@ use Rattle.netlist.proofs.Written.{gate_written, gate_valid, gate_size}
 
 pub bytes_append : (gs hs : List PlainGate) → gates_bytes (gs ++ hs) ≡ gates_bytes gs ++ gates_bytes hs
 bytes_append [] hs = refl
-bytes_append (g ∷ gs) hs = ap (λ x. gate_bytes g ++ x) (bytes_append gs hs) ∙ sym (append_assoc (gate_bytes g) (gates_bytes gs) (gates_bytes hs))
+bytes_append (g ∷ gs) hs = grind (arith, common_steps, bytes_append gs hs)
 
-pub valid_more : (own : ℕ) (gs : List PlainGate) (g : PlainGate) → T (valid_gates own gs) → T (valid_gate (own + length gs) g) → T (valid_gates own (gs ++ g ∷ []))
-valid_more own [] g v w = yes_so _ (and_from _ _ (so _ (subst (λ n. T (valid_gate n g)) (add-zero own) w)) refl)
-valid_more own (h ∷ gs) g v w =
-    let both = and_parts (valid_gate own h) (valid_gates (own + 1) gs) (so _ v) in
-    let moved : own + length (h ∷ gs) ≡ (own + 1) + length gs = omega arith in
-    yes_so _ (and_from _ _ both.0 (so _ (valid_more (own + 1) gs g (yes_so _ both.1) (subst (λ n. T (valid_gate n g)) moved w))))
+valid_more : (own : ℕ) (gs : List PlainGate) (g : PlainGate) → T (valid_gates own gs) → T (valid_gate (own + length gs) g) → T (valid_gates own (gs ++ g ∷ []))
+valid_more own [] g v w = yes_so _ (grind (arith, common_steps))
+valid_more own (h ∷ gs) g v w = yes_so _ (grind (arith, common_steps, valid_more (own + 1) gs g))
 
 pub plain_more : (gs : List Gate) (g : Gate) → plain_gates (gs ++ g ∷ []) ≡ plain_gates gs ++ plain_gate g ∷ []
 plain_more gs g = map-append plain_gate gs (g ∷ [])
@@ -38,16 +36,13 @@ pub taken_more : (bytes : List ℕ) (place own : ℕ) (gs : List PlainGate) (at 
 taken_more bytes place own gs at next h taken follows held low0 low2 is =
     let kept = subst (λ n. first_broken (gate n) (drop at bytes) ≡ None) follows held in
     let bs = drop at bytes in
-    let after = at + 4 + length_of bs in
     let written = gate_written (own + length gs) bs kept h is.code is.least is.greatest is.pins low0 low2 is.low_least is.low_greatest in
     let size = gate_size (own + length gs) bs kept h is.code is.least is.greatest is.pins in
-    let more : gates_bytes (gs ++ h ∷ []) ≡ gates_bytes gs ++ gate_bytes h = bytes_append gs (h ∷ []) ∙ ap (λ x. gates_bytes gs ++ x) (append-nil (gate_bytes h)) in
-    let behind : drop (4 + length_of bs) bs ≡ drop after bytes = drop-drop (4 + length_of bs) at bytes ∙ ap (λ n. drop n bytes) (sym (add_assoc at 4 (length_of bs))) in
+    let more = bytes_append gs (h ∷ []) in
     record {
       valid = valid_more own gs h taken.valid (gate_valid (own + length gs) bs kept h is.code is.least is.greatest is.pins is.most);
-      stands =
-          taken.stands ∙ ap (λ x. gates_bytes gs ++ x) (written ∙ ap (λ x. gate_bytes h ++ x) behind) ∙ sym (append_assoc (gates_bytes gs) (gate_bytes h) (drop after bytes)) ∙ ap (λ x. x ++ drop after bytes) (sym more);
-      moved = omega (arith, taken.moved, ap length more, length-append (gates_bytes gs) (gate_bytes h), size);
+      stands = grind (arith, common_steps, taken.stands);
+      moved = grind (arith, common_steps, taken.moved);
     }
 
 -- the reader takes one more gate behind those taken so far
