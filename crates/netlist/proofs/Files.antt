@@ -2,6 +2,7 @@
 use Rattle.std.proofs.Common.{◌≡◌, ℕ, zero, suc, ◌+◌, ◌-◌, ◌<◌, ◌≤◌, T, ◌⊎◌, List, [], ◌∷◌, ◌++◌, length, get_or, take, drop, Some, None, Option, sym, refl, ap, ◌∙◌, subst, inl, inr, append_assoc, append-nil, add-zero, add_assoc, zero-add, arith, lit<, length-append, take-append-drop, get_or-drop, drop-drop, take_at}
 use Rattle.std.specs.Option.{option_map}
 use Rattle.std.proofs.lemmas.Bool.{and_parts, and_from}
+use Rattle.std.proofs.lemmas.Grind.{common_steps}
 use Rattle.netlist.specs.declared.circuit.read.Head.{Head}
 use Rattle.records.specs.declared.reader.Reader.{Reader}
 use Rattle.records.specs.Next.{rest}
@@ -36,73 +37,55 @@ outcome bs =
 
 -- valid gates that are written out are taken as they are
 gates_outcome_lem : (inputs left own place : ℕ) (before gs : List PlainGate) (s : List ℕ) → T (valid_gates own gs) → gates_outcome inputs (length gs + left) own place before (gates_bytes gs ++ s) ≡ gates_outcome inputs left (own + length gs) (place + length (gates_bytes gs)) (before ++ gs) s
-gates_outcome_lem inputs left own place before [] s v =
-    ap (λ n. gates_outcome inputs n own place before s) (zero-add left)
-    ∙ (λ i. gates_outcome inputs left (sym (add-zero own) i) (sym (add-zero place) i) (sym (append-nil before) i) s)
+gates_outcome_lem inputs left own place before [] s v = grind (arith, common_steps)
 gates_outcome_lem inputs left own place before (g ∷ gs) s v =
     let both = and_parts (valid_gate own g) (valid_gates (own + 1) gs) (so _ v) in
-    let rest = gates_bytes gs ++ s in
     let p = gate_payload g in
-    let bs = gate_bytes g ++ rest in
-    let size : 4 + length_of bs ≡ length (gate_bytes g) = ap (λ n. 4 + n) (length_back 2 p rest) ∙ omega arith in
+    let rest = gates_bytes gs ++ s in
     let count : length (g ∷ gs) + left ≡ suc (length gs + left) = omega arith in
-    let far : place + length (gate_bytes g) + length (gates_bytes gs) ≡ place + length (gates_bytes (g ∷ gs)) = omega (arith, length-append (gate_bytes g) (gates_bytes gs)) in
-    let high : own + 1 + length gs ≡ own + length (g ∷ gs) = omega arith in
-    ap (λ xs. gates_outcome inputs (length (g ∷ gs) + left) own place before xs) (append_assoc (gate_bytes g) (gates_bytes gs) s)
-    ∙ ap (λ n. gates_outcome inputs n own place before bs) count
-    ∙ ap (λ o. unless_broken o place (gates_outcome inputs (length gs + left) (own + 1) (place + (4 + length_of bs)) (before ++ gate_from (payload_of bs) ∷ []) (drop (4 + length_of bs) bs))) (gate_kept own g rest (yes_so _ both.0))
-    ∙ (λ i. gates_outcome inputs (length gs + left) (own + 1) (place + size i) (before ++ (ap gate_from (payload_back 2 p rest) ∙ gate_back g) i ∷ []) (rest_back 2 p rest i))
-    ∙ gates_outcome_lem inputs left (own + 1) (place + length (gate_bytes g)) (before ++ g ∷ []) gs s (yes_so _ both.1)
-    ∙ (λ i. gates_outcome inputs left (high i) (far i) (append_assoc before (g ∷ []) gs i) s)
+    let kept = gate_kept own g rest (yes_so _ both.0) in
+    let size = length_back 2 p rest in
+    let payload = payload_back 2 p rest in
+    let behind = rest_back 2 p rest in
+    let others = gates_outcome_lem inputs left (own + 1) (place + length (gate_bytes g)) (before ++ g ∷ []) gs s (yes_so _ both.1) in
+    rw count (grind (arith, common_steps, gate_back))
 
 -- a good head and valid gates that are written out, and what the bytes behind them come to
 file_outcome : (inputs left : ℕ) (gs : List PlainGate) (s : List ℕ) → T (good_head inputs (length gs + left)) → T (valid_gates inputs gs) → outcome (head_bytes inputs (length gs + left) ++ (gates_bytes gs ++ s)) ≡ gates_outcome inputs left (inputs + length gs) (6 + length (gates_bytes gs)) gs s
 file_outcome inputs left gs s good valid =
-    let n = length gs + left in
-    let rest = gates_bytes gs ++ s in
-    ap (λ o. unless_broken o 0 (gates_outcome inputs n inputs 6 [] rest)) (head_kept inputs n rest good)
-    ∙ gates_outcome_lem inputs left inputs 6 [] gs s valid
+    let kept = head_kept inputs (length gs + left) (gates_bytes gs ++ s) good in
+    let taken = gates_outcome_lem inputs left inputs 6 [] gs s valid in
+    grind (arith, common_steps)
 
 -- the bytes begin with what they were taken from
 begins : (n : ℕ) (bytes xs : List ℕ) → take n bytes ≡ xs → bytes ≡ xs ++ drop n bytes
-begins n bytes xs h = sym (take-append-drop n bytes) ∙ ap (λ ys. ys ++ drop n bytes) h
+begins n bytes xs h = grind (arith, common_steps)
 
 accepted_told : (bytes : List ℕ) (c : PlainCircuit) (n : ℕ) → Accepted bytes c n → accepted c n ≡ outcome bytes
 accepted_told bytes c n h =
     let gs = c.gates in
     let parts = and_parts (good_head c.inputs (length gs)) (valid_gates c.inputs gs) (so _ h.valid) in
     let all : length gs + 0 ≡ length gs = add-zero (length gs) in
-    let good : T (good_head c.inputs (length gs + 0)) = subst (λ k. T (good_head c.inputs k)) (sym all) (yes_so _ parts.0) in
+    let good : T (good_head c.inputs (length gs + 0)) = rw all (yes_so _ parts.0) in
     let s = drop n bytes in
     let used : 6 + length (gates_bytes gs) ≡ n = omega (arith, h.used) in
-    sym (
-    ap outcome (begins n bytes (layout c) h.written ∙ append_assoc (head_bytes c.inputs (length gs)) (gates_bytes gs) s)
-    ∙ ap (λ k. outcome (head_bytes c.inputs k ++ (gates_bytes gs ++ s))) (sym all)
-    ∙ file_outcome c.inputs 0 gs s good (yes_so _ parts.1)
-    ∙ ap (accepted c) used
-    )
+    let is : bytes ≡ head_bytes c.inputs (length gs + 0) ++ (gates_bytes gs ++ s) = grind (arith, common_steps, begins n bytes (layout c) h.written) in
+    sym (ap outcome is ∙ file_outcome c.inputs 0 gs s good (yes_so _ parts.1) ∙ ap (accepted c) used)
 
 before_told : (bytes : List ℕ) (own place : ℕ) (rule : Rule) → GatesBefore bytes place own → first_broken (gate own) (drop place bytes) ≡ Some rule → refused (refusal rule place) ≡ outcome bytes
 before_told bytes own place rule h broken =
     let gs = h.gates in
     let left = h.announced - (length gs + 1) in
     let count : h.announced ≡ length gs + suc left = omega (arith, h.fewer) in
-    let good : T (good_head h.inputs (length gs + suc left)) = subst (λ k. T (good_head h.inputs k)) count h.good in
+    let good : T (good_head h.inputs (length gs + suc left)) = rw (← count) h.good in
     let s = drop place bytes in
     let far : 6 + length (gates_bytes gs) ≡ place = omega (arith, h.reached) in
-    let due : first_broken (gate (h.inputs + length gs)) s ≡ Some rule = subst (λ k. first_broken (gate k) s ≡ Some rule) h.next broken in
-    sym (
-    ap outcome (begins place bytes _ h.written ∙ append_assoc (head_bytes h.inputs h.announced) (gates_bytes gs) s)
-    ∙ ap (λ k. outcome (head_bytes h.inputs k ++ (gates_bytes gs ++ s))) count
-    ∙ file_outcome h.inputs (suc left) gs s good h.valid
-    ∙ ap (λ o. unless_broken o (6 + length (gates_bytes gs)) (gates_outcome h.inputs left (h.inputs + length gs + 1) (6 + length (gates_bytes gs) + (4 + length_of s)) (gs ++ gate_from (payload_of s) ∷ []) (drop (4 + length_of s) s))) due
-    ∙ ap (λ k. refused (refusal rule k)) far
-    )
+    let is : bytes ≡ head_bytes h.inputs (length gs + suc left) ++ (gates_bytes gs ++ s) = grind (arith, common_steps, begins place bytes _ h.written) in
+    let due : first_broken (gate (h.inputs + length gs)) s ≡ Some rule = rw (← h.next) broken in
+    sym (ap outcome is ∙ file_outcome h.inputs (suc left) gs s good h.valid ∙ rw (due, far) refl)
 
 refused_told : (bytes : List ℕ) (due : Due) (rule : Rule) (place : ℕ) → DueAt bytes place due → first_broken due (drop place bytes) ≡ Some rule → refused (refusal rule place) ≡ outcome bytes
-refused_told bytes head rule place first broken =
-    let here : first_broken head bytes ≡ Some rule = subst (λ k. first_broken head (drop k bytes) ≡ Some rule) first broken in
-    ap (λ k. refused (refusal rule k)) first ∙ sym (ap (λ o. unless_broken o 0 (gates_outcome (get_or (payload_of bytes) 0 0) (get_or (payload_of bytes) 1 0) (get_or (payload_of bytes) 0 0) 6 [] (drop 6 bytes))) here)
+refused_told bytes head rule place first broken = rw (rw first at broken, first) refl
 refused_told bytes (gate own) rule place before broken = before_told bytes own place rule before broken
 
 -- whatever outcome the bytes have, it is this one
