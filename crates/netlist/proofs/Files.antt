@@ -96,128 +96,112 @@ told bytes (refused r) h = ap refused h.told ∙ refused_told bytes h.due h.rule
 pub only : (bytes : List ℕ) (o : Outcome) → Has bytes o → Only bytes o
 only bytes o h = (h, λ other k. told bytes other k ∙ sym (told bytes o h))
 
-same_circuit : (c d : PlainCircuit) (m n : ℕ) → accepted c m ≡ accepted d n → c ≡ d
-same_circuit c d m n h = cc
-
 -- the layout determines the circuit, whatever follows it
 pub layout_determines : LayoutDetermines
 layout_determines c d s t valid-c valid-d same =
     let bytes = layout c ++ s in
     let first : Accepted bytes c (length (layout c)) = record { valid = valid-c; used = refl; written = take_at (layout c) s _ refl } in
     let second : Accepted bytes d (length (layout d)) = record { valid = valid-d; used = refl; written = ap (take (length (layout d))) same ∙ take_at (layout d) t _ refl } in
-    same_circuit c d _ _ (told bytes (accepted c (length (layout c))) first ∙ sym (told bytes (accepted d (length (layout d))) second))
+    let one : accepted c (length (layout c)) ≡ accepted d (length (layout d)) = told bytes (accepted c _) first ∙ sym (told bytes (accepted d _) second) in
+    cc
 
--- what was read: a good head, then as many gates as it announces
-pub read_accepted : (bytes : List ℕ) (inputs count : ℕ) (gs : List PlainGate) (after : ℕ) → first_broken head bytes ≡ None → get_or bytes 0 0 < 256 → get_or bytes 2 0 < 256 → inputs ≡ get_or (payload_of bytes) 0 0 → count ≡ get_or (payload_of bytes) 1 0 → GatesTaken bytes 6 inputs gs after → length gs ≡ count → Accepted bytes (record { inputs = inputs; gates = gs }) after
-read_accepted bytes inputs count gs after kept low0 low2 is_inputs is_count taken all =
-    let c : PlainCircuit = record { inputs = inputs; gates = gs } in
-    let good = head_good bytes kept inputs count is_inputs is_count in
-    let front = head_written bytes kept inputs count is_inputs is_count low0 low2 in
-    let six : drop (4 + length_of bytes) bytes ≡ gates_bytes gs ++ drop after bytes = ap (λ k. drop k bytes) (head_size bytes kept inputs count is_inputs is_count) ∙ taken.stands in
-    let whole : bytes ≡ layout c ++ drop after bytes =
-    front ∙ ap (λ xs. head_bytes inputs count ++ xs) six ∙ sym (append_assoc (head_bytes inputs count) (gates_bytes gs) (drop after bytes)) ∙ ap (λ k. (head_bytes inputs k ++ gates_bytes gs) ++ drop after bytes) (sym all) in
-    let used : after ≡ length (layout c) = omega (arith, taken.moved) in
-    record {
-      valid = yes_so _ (and_from _ _ (so _ (subst (λ k. T (good_head inputs k)) (sym all) good)) (so _ taken.valid));
-      used = used;
-      written = ap (take after) whole ∙ take_at (layout c) (drop after bytes) after (sym used);
-    }
+-- the bytes begin with a head that keeps every rule and announces so many inputs and gates
+record Headed (bytes : List ℕ) (inputs count : ℕ) : Type 0 where
+  kept : first_broken head bytes ≡ None
+  low_length : get_or bytes 0 0 < 256
+  low_kind : get_or bytes 2 0 < 256
+  is_inputs : inputs ≡ get_or (payload_of bytes) 0 0
+  is_count : count ≡ get_or (payload_of bytes) 1 0
 
--- what was read: a good head, fewer gates than it announces, and a record that breaks a rule
-pub read_stopped : (bytes : List ℕ) (inputs count : ℕ) (rule : Rule) (place : ℕ) → first_broken head bytes ≡ None → get_or bytes 0 0 < 256 → get_or bytes 2 0 < 256 → inputs ≡ get_or (payload_of bytes) 0 0 → count ≡ get_or (payload_of bytes) 1 0 → Stopped rule place bytes 6 inputs count → Refused bytes (refusal rule place)
-read_stopped bytes inputs count rule place kept low0 low2 is_inputs is_count stop =
-    let gs = stop.gates in
-    let after = stop.after in
-    let front = head_written bytes kept inputs count is_inputs is_count low0 low2 in
-    let six : drop (4 + length_of bytes) bytes ≡ gates_bytes gs ++ drop after bytes = ap (λ k. drop k bytes) (head_size bytes kept inputs count is_inputs is_count) ∙ stop.taken.stands in
-    let whole : bytes ≡ (head_bytes inputs count ++ gates_bytes gs) ++ drop after bytes =
-    front ∙ ap (λ xs. head_bytes inputs count ++ xs) six ∙ sym (append_assoc (head_bytes inputs count) (gates_bytes gs) (drop after bytes)) in
-    let reached : after ≡ length (head_bytes inputs count ++ gates_bytes gs) = omega (arith, stop.taken.moved) in
-    record {
-      due = gate (inputs + length gs);
-      rule = rule;
-      place = after;
-      reached = record {
-        inputs = inputs;
-        announced = count;
-        gates = gs;
-        good = head_good bytes kept inputs count is_inputs is_count;
-        valid = stop.taken.valid;
-        fewer = stop.fewer;
-        next = refl;
-        reached = reached;
-        written = ap (take after) whole ∙ take_at (head_bytes inputs count ++ gates_bytes gs) (drop after bytes) after (sym reached);
-      };
-      broken = stop.broken;
-      told = ap (refusal rule) stop.there;
-    }
+module _ (bytes : List ℕ) (inputs count : ℕ) (front : Headed bytes inputs count) where
+  good : T (good_head inputs count)
+  good = head_good bytes front.kept inputs count front.is_inputs front.is_count
+
+  -- behind the head stand the gates that were taken
+  stands : (gs : List PlainGate) (after : ℕ) → GatesTaken bytes 6 inputs gs after → bytes ≡ (head_bytes inputs count ++ gates_bytes gs) ++ drop after bytes
+  stands gs after taken =
+      let written = head_written bytes front.kept inputs count front.is_inputs front.is_count front.low_length front.low_kind in
+      let size = head_size bytes front.kept inputs count front.is_inputs front.is_count in
+      grind (arith, common_steps, taken.stands)
+
+  -- what was read: a good head, then as many gates as it announces
+  read_accepted : (gs : List PlainGate) (after : ℕ) → GatesTaken bytes 6 inputs gs after → length gs ≡ count → Accepted bytes (record { inputs = inputs; gates = gs }) after
+  read_accepted gs after taken all =
+      let used : after ≡ length (head_bytes inputs count ++ gates_bytes gs) = omega (arith, taken.moved) in
+      record {
+        valid = yes_so _ (and_from _ _ (rw all (so _ good)) (so _ taken.valid));
+        used = used;
+        written = rw (stands gs after taken, all) (take_at (head_bytes inputs count ++ gates_bytes gs) (drop after bytes) after (sym used));
+      }
+
+  -- what was read: a good head, fewer gates than it announces, and a record that breaks a rule
+  read_stopped : (rule : Rule) (place : ℕ) → Stopped rule place bytes 6 inputs count → Refused bytes (refusal rule place)
+  read_stopped rule place stop =
+      let gs = stop.gates in
+      let after = stop.after in
+      let reached : after ≡ length (head_bytes inputs count ++ gates_bytes gs) = omega (arith, stop.taken.moved) in
+      record {
+        due = gate (inputs + length gs);
+        rule = rule;
+        place = after;
+        reached = record {
+          inputs = inputs;
+          announced = count;
+          gates = gs;
+          good = good;
+          valid = stop.taken.valid;
+          fewer = stop.fewer;
+          next = refl;
+          reached = reached;
+          written = rw (stands gs after stop.taken) (take_at (head_bytes inputs count ++ gates_bytes gs) (drop after bytes) after (sym reached));
+        };
+        broken = stop.broken;
+        told = ap (refusal rule) stop.there;
+      }
+
+  -- an answer of the program: a fault of a gate
+  gates_tell_by : (o : Option Rule) (told : ℕ) → StopsBy o told bytes 6 inputs count → TellsOnly bytes (refused_as (option_map (λ r. refusal r told) o))
+  gates_tell_by None told stop = tt
+  gates_tell_by (Some r) told stop = only bytes _ (read_stopped r told stop)
 
 -- an answer of the program: a fault of the head
-head_tells_by : (o : Option Rule) (told place : ℕ) (bytes : List ℕ) → TellsRule o (first_broken head bytes) → told ≡ place_told o 0 → TellsOnly bytes (refused_as (option_map (λ r. refusal r told) o))
-head_tells_by None told place bytes broken there = tt
-head_tells_by (Some r) told place bytes broken there =
+head_tells_by : (o : Option Rule) (told : ℕ) (bytes : List ℕ) → TellsRule o (first_broken head bytes) → told ≡ place_told o 0 → TellsOnly bytes (refused_as (option_map (λ r. refusal r told) o))
+head_tells_by None told bytes broken there = tt
+head_tells_by (Some r) told bytes broken there =
     only bytes _ (record { due = head; rule = r; place = 0; reached = refl; broken = broken; told = ap (refusal r) there })
 
-pub head_tells : (e : CircuitFault) (bytes : List ℕ) → Tells e (first_broken head bytes) 0 → TellsOnly bytes (refused_as (refusal_of e))
-head_tells e bytes tells = head_tells_by (rule_of e) (place_of e) 0 bytes tells.0 tells.1
+-- a reader at the first byte that has taken the head
+module _ (bytes : List ℕ) (start : Reader) (first : start.at ≡ 0) (same : start.bytes.now ≡ bytes) where
+  all : rest start ≡ bytes
+  all = rw (first, same) refl
 
--- an answer of the program: a fault of a gate
-gates_tell_by : (o : Option Rule) (told : ℕ) (bytes : List ℕ) (inputs count : ℕ) → first_broken head bytes ≡ None → get_or bytes 0 0 < 256 → get_or bytes 2 0 < 256 → inputs ≡ get_or (payload_of bytes) 0 0 → count ≡ get_or (payload_of bytes) 1 0 → StopsBy o told bytes 6 inputs count → TellsOnly bytes (refused_as (option_map (λ r. refusal r told) o))
-gates_tell_by None told bytes inputs count kept low0 low2 is_inputs is_count stop = tt
-gates_tell_by (Some r) told bytes inputs count kept low0 low2 is_inputs is_count stop =
-    only bytes _ (read_stopped bytes inputs count r told kept low0 low2 is_inputs is_count stop)
+  -- the head is refused
+  pub head_refused : (e : CircuitFault) → Tells e (first_broken head (rest start)) start.at → TellsOnly bytes (refused_as (refusal_of e))
+  head_refused e tells = head_tells_by (rule_of e) (place_of e) bytes (rw all at tells.0) (rw first at tells.1)
 
-pub gates_tell : (e : CircuitFault) (bytes : List ℕ) (inputs count : ℕ) → first_broken head bytes ≡ None → get_or bytes 0 0 < 256 → get_or bytes 2 0 < 256 → inputs ≡ get_or (payload_of bytes) 0 0 → count ≡ get_or (payload_of bytes) 1 0 → Stops e bytes 6 inputs count → TellsOnly bytes (refused_as (refusal_of e))
-gates_tell e bytes inputs count = gates_tell_by (rule_of e) (place_of e) bytes inputs count
-
--- a reader at the first byte has taken a good head and stands behind it
-pub record Started (bytes : List ℕ) (inputs count : ℕ) (after : Reader) : Type 0 where
-  pub kept : first_broken head bytes ≡ None
-  pub low_length : get_or bytes 0 0 < 256
-  pub low_kind : get_or bytes 2 0 < 256
-  pub is_inputs : inputs ≡ get_or (payload_of bytes) 0 0
-  pub is_count : count ≡ get_or (payload_of bytes) 1 0
-  pub six : after.at ≡ 6
-  pub same : after.bytes.now ≡ bytes
-
-rest_is : (bytes : List ℕ) (r : Reader) → r.at ≡ 0 → r.bytes.now ≡ bytes → rest r ≡ bytes
-rest_is bytes r first same = ap (λ n. drop n r.bytes.now) first ∙ same
-
-pub started : (bytes : List ℕ) (before after : Reader) (h : Head) → before.at ≡ 0 → before.bytes.now ≡ bytes → Passed head before after → Announces (payload_of (rest before)) h → Started bytes h.inputs h.gates after
-started bytes before after h first same passed says =
-    let is = rest_is bytes before first same in
-    let kept = subst (λ bs. first_broken head bs ≡ None) is passed.kept in
-    let is_inputs = says.inputs ∙ ap (λ bs. get_or (payload_of bs) 0 0) is in
-    let is_count = says.gates ∙ ap (λ bs. get_or (payload_of bs) 1 0) is in
-    record {
-      kept = kept;
-      low_length = subst (λ bs. get_or bs 0 0 < 256) is passed.low_length;
-      low_kind = subst (λ bs. get_or bs 2 0 < 256) is passed.low_kind;
-      is_inputs = is_inputs;
-      is_count = is_count;
-      six = omega (arith, passed.moved, first, ap length_of is, head_size bytes kept h.inputs h.gates is_inputs is_count);
-      same = passed.same ∙ same;
+  module _ (mid : Reader) (h : Head) (read : Passed head start mid × Announces (payload_of (rest start)) h) where
+    headed : Headed bytes h.inputs h.gates
+    headed = record {
+      kept = rw all at read.0.kept;
+      low_length = rw all at read.0.low_length;
+      low_kind = rw all at read.0.low_kind;
+      is_inputs = rw all at read.1.inputs;
+      is_count = rw all at read.1.gates;
     }
 
-module _ (bytes : List ℕ) (inputs count : ℕ) (r : Reader) (start : Started bytes inputs count r) where
-  pub started_accepted : (gs : List PlainGate) (after : ℕ) → GatesTaken r.bytes.now r.at inputs gs after → length gs ≡ count → Accepted bytes (record { inputs = inputs; gates = gs }) after
-  started_accepted gs after taken all =
-      read_accepted bytes inputs count gs after start.kept start.low_length start.low_kind start.is_inputs start.is_count
-      (subst (λ n. GatesTaken bytes n inputs gs after) start.six (subst (λ bs. GatesTaken bs r.at inputs gs after) start.same taken)) all
+    six : mid.at ≡ 6
+    six = omega (arith, read.0.moved, first, ap length_of all, head_size bytes headed.kept h.inputs h.gates headed.is_inputs headed.is_count)
 
-  pub started_stops : (e : CircuitFault) → Stops e r.bytes.now r.at inputs count → TellsOnly bytes (refused_as (refusal_of e))
-  started_stops e stops =
-      gates_tell e bytes inputs count start.kept start.low_length start.low_kind start.is_inputs start.is_count
-      (subst (λ n. Stops e bytes n inputs count) start.six (subst (λ bs. Stops e bs r.at inputs count) start.same stops))
+    kept : mid.bytes.now ≡ bytes
+    kept = read.0.same ∙ same
 
-pub started_not : (bytes : List ℕ) (before : Reader) (e : CircuitFault) → before.at ≡ 0 → before.bytes.now ≡ bytes → Tells e (first_broken head (rest before)) before.at → TellsOnly bytes (refused_as (refusal_of e))
-started_not bytes before e first same tells =
-    head_tells e bytes (subst (λ n. Tells e (first_broken head bytes) n) first (subst (λ bs. Tells e (first_broken head bs) before.at) (rest_is bytes before first same) tells))
+    -- all the gates that the head announces were taken
+    pub file_accepted : (gs : List PlainGate) (after : ℕ) → GatesTaken mid.bytes.now mid.at h.inputs gs after → length gs ≡ h.gates → Accepted bytes (record { inputs = h.inputs; gates = gs }) after
+    file_accepted gs after taken count = read_accepted bytes h.inputs h.gates headed gs after (rw (kept, six) at taken) count
 
--- a head and all the gates that it announces were taken: the circuit is the one that the bytes are accepted as
-pub file_accepted : (bytes : List ℕ) (before mid : Reader) (h : Head) (gs : List PlainGate) (after : ℕ) → before.at ≡ 0 → before.bytes.now ≡ bytes → Passed head before mid × Announces (payload_of (rest before)) h → GatesTaken mid.bytes.now mid.at h.inputs gs after → length gs ≡ h.gates → Accepted bytes (record { inputs = h.inputs; gates = gs }) after
-file_accepted bytes before mid h gs after first same told taken all =
-    started_accepted bytes h.inputs h.gates mid (started bytes before mid h first same told.0 told.1) gs after taken all
+    -- a gate is refused
+    pub gate_refused : (e : CircuitFault) → Stops e mid.bytes.now mid.at h.inputs h.gates → TellsOnly bytes (refused_as (refusal_of e))
+    gate_refused e stops = gates_tell_by bytes h.inputs h.gates headed (rule_of e) (place_of e) (rw (kept, six) at stops)
 
 -- none, or some rule
 decided : (o : Option Rule) → (o ≡ None) ⊎ ((r : Rule) × (o ≡ Some r))
@@ -250,9 +234,9 @@ payload_describes p all known =
     }
 
 -- behind a good head, the outcome that is worked out is one that the bytes have
-module _ (bytes : List ℕ) (all : AllBytes bytes) (inputs count : ℕ) (kept : first_broken head bytes ≡ None) (is_inputs : inputs ≡ get_or (payload_of bytes) 0 0) (is_count : count ≡ get_or (payload_of bytes) 1 0) where
+module _ (bytes : List ℕ) (all : AllBytes bytes) (inputs count : ℕ) (front : Headed bytes inputs count) where
   has_behind : (left : ℕ) (gs : List PlainGate) (at : ℕ) → GatesTaken bytes 6 inputs gs at → length gs + left ≡ count → Has bytes (gates_outcome inputs left (inputs + length gs) at gs (drop at bytes))
-  has_behind zero gs at taken left = read_accepted bytes inputs count gs at kept (all 0) (all 2) is_inputs is_count taken (sym (add-zero (length gs)) ∙ left)
+  has_behind zero gs at taken left = read_accepted bytes inputs count front gs at taken (omega (arith, left))
   has_behind (suc n) gs at taken left =
       let bs = drop at bytes in
       let own = inputs + length gs in
@@ -272,19 +256,20 @@ module _ (bytes : List ℕ) (all : AllBytes bytes) (inputs count : ℕ) (kept : 
             (subst (Has bytes) (λ i. gates_outcome inputs n (own-more i) (far i) (gs ++ g ∷ []) (behind i)) (has_behind n (gs ++ g ∷ []) after more count-more))
         | inr (r, e) ↦
             subst (λ o. Has bytes (unless_broken o at next)) (sym e)
-            (read_stopped bytes inputs count r at kept (all 0) (all 2) is_inputs is_count (record { gates = gs; after = at; fewer = fewer; taken = taken; broken = e; there = refl }))
+            (read_stopped bytes inputs count front r at (record { gates = gs; after = at; fewer = fewer; taken = taken; broken = e; there = refl }))
       ]
 
 -- every list of bytes has an outcome, and just one
 pub one_outcome : OneOutcome
 one_outcome bytes all =
     elim (decided (first_broken head bytes)) [
-      | inl e ↦ (
-        outcome bytes,
-        only bytes (outcome bytes) (subst (λ o. Has bytes (unless_broken o 0 (gates_outcome (get_or (payload_of bytes) 0 0) (get_or (payload_of bytes) 1 0) (get_or (payload_of bytes) 0 0) 6 [] (drop 6 bytes)))) (sym e)
-            (subst (λ k. Has bytes (gates_outcome (get_or (payload_of bytes) 0 0) (get_or (payload_of bytes) 1 0) k 6 [] (drop 6 bytes))) (add-zero (get_or (payload_of bytes) 0 0))
-            (has_behind bytes all (get_or (payload_of bytes) 0 0) (get_or (payload_of bytes) 1 0) e refl refl (get_or (payload_of bytes) 1 0) [] 6 (none_taken bytes 6 (get_or (payload_of bytes) 0 0)) (zero-add _)))),
-      )
+      | inl e ↦
+          let inputs = get_or (payload_of bytes) 0 0 in
+          let count = get_or (payload_of bytes) 1 0 in
+          let front : Headed bytes inputs count = record { kept = e; low_length = all 0; low_kind = all 2; is_inputs = refl; is_count = refl } in
+          let has = has_behind bytes all inputs count front count [] 6 (none_taken bytes 6 inputs) (zero-add count) in
+          let is : outcome bytes ≡ gates_outcome inputs count (inputs + 0) 6 [] (drop 6 bytes) = rw (e, add-zero) refl in
+          (outcome bytes, only bytes (outcome bytes) (subst (Has bytes) (sym is) has))
       | inr (r, e) ↦
           (refused (refusal r 0), only bytes (refused (refusal r 0)) (record { due = head; rule = r; place = 0; reached = refl; broken = e; told = refl }))
     ]
