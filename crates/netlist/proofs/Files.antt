@@ -1,5 +1,5 @@
 -- Every list of bytes has just one outcome. Assumes nothing.
-use Rattle.std.proofs.Common.{◌≡◌, ℕ, zero, suc, ◌+◌, ◌-◌, ◌<◌, ◌≤◌, T, ◌⊎◌, List, [], ◌∷◌, ◌++◌, length, get_or, take, drop, Some, None, Option, sym, refl, ap, ◌∙◌, subst, inl, inr, append_assoc, append-nil, add-zero, add_assoc, zero-add, arith, lit<, length-append, take-append-drop, get_or-drop, drop-drop, take_at}
+use Rattle.std.proofs.Common.{◌≡◌, ℕ, zero, suc, ◌+◌, ◌-◌, ◌<◌, ◌≤◌, T, ◌⊎◌, List, [], ◌∷◌, ◌++◌, length, get_or, take, drop, Some, None, Option, sym, refl, ap, ◌∙◌, subst, inl, inr, add-zero, add_assoc, zero-add, arith, length-append, get_or-drop, take_at}
 use Rattle.std.specs.Option.{option_map}
 use Rattle.std.proofs.lemmas.Bool.{and_parts, and_from}
 use Rattle.std.proofs.lemmas.Grind.{common_steps}
@@ -213,10 +213,7 @@ bytes_behind at bytes all i = rw (get_or-drop at bytes i 0) (all (at + i))
 
 -- a part at the front reads as the bytes do, or as 0 past its end
 bytes_front : (n : ℕ) (bytes : List ℕ) → AllBytes bytes → AllBytes (take n bytes)
-bytes_front zero bytes all i = lit< tt
-bytes_front (suc n) [] all i = lit< tt
-bytes_front (suc n) (b ∷ bytes) all zero = all 0
-bytes_front (suc n) (b ∷ bytes) all (suc i) = bytes_front n bytes (λ k. all (suc k)) i
+bytes_front n bytes all i = grind (arith, common_steps, all i)
 
 -- the gate of a payload that keeps every rule is the one that it describes
 payload_describes : (p : List ℕ) → AllBytes p → code_of p ≤ 7 → Describes p (gate_from p)
@@ -251,7 +248,7 @@ module _ (bytes : List ℕ) (all : AllBytes bytes) (inputs count : ℕ) (front :
             let count-more : length (gs ++ g ∷ []) + n ≡ count = omega (arith, length-append gs (g ∷ []), left) in
             let own-more : inputs + length (gs ++ g ∷ []) ≡ own + 1 = omega (arith, length-append gs (g ∷ [])) in
             let far : after ≡ at + (4 + length_of bs) = add_assoc at 4 (length_of bs) in
-            let behind : drop after bytes ≡ drop (4 + length_of bs) bs = ap (λ k. drop k bytes) far ∙ sym (drop-drop (4 + length_of bs) at bytes) in
+            let behind : drop after bytes ≡ drop (4 + length_of bs) bs = grind (arith, common_steps) in
             subst (λ o. Has bytes (unless_broken o at next)) (sym e)
             (subst (Has bytes) (λ i. gates_outcome inputs n (own-more i) (far i) (gs ++ g ∷ []) (behind i)) (has_behind n (gs ++ g ∷ []) after more count-more))
         | inr (r, e) ↦

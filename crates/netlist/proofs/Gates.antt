@@ -1,21 +1,18 @@
 -- Gates one after the other: one more gate behind those taken so far. Assumes nothing.
-use Rattle.std.proofs.Common.{◌≡◌, ℕ, ◌+◌, ◌<◌, T, List, [], ◌∷◌, ◌++◌, length, get_or, drop, Some, None, Option, sym, refl, ap, ◌∙◌, subst, append_assoc, append-nil, add-zero, add_assoc, arith, length-append, drop-drop}
+use Rattle.std.proofs.Common.{◌≡◌, ℕ, ◌+◌, ◌<◌, T, List, [], ◌∷◌, ◌++◌, length, get_or, drop, None, sym, refl, subst, add-zero, arith}
 use mathlib.Core.List.{map-append}
-use Rattle.std.proofs.lemmas.Bool.{and_parts, and_from}
 use Rattle.std.proofs.lemmas.List.{length-map}
 use Rattle.std.proofs.lemmas.Grind.{common_steps}
 use Rattle.records.specs.declared.reader.Reader.{Reader}
 use Rattle.records.specs.Next.{rest}
-use Rattle.netlist.specs.declared.fault.CircuitFault.{CircuitFault}
 use Rattle.netlist.specs.declared.gate.Gate.{Gate}
 use Rattle.netlist.specs.Circuit.{PlainGate, valid_gate, valid_gates}
 use Rattle.netlist.specs.Plain.{plain_gate, plain_gates}
 use Rattle.records.specs.Record.{length_of, payload_of}
-use Rattle.netlist.specs.Rules.{Rule, gate, first_broken}
-use Rattle.netlist.specs.Layout.{gate_bytes, gates_bytes}
-use Rattle.netlist.specs.Fault.{rule_of, place_of}
-use Rattle.netlist.specs.Step.{GatesTaken, Passed, Describes, Stops, StopsBy, Tells, TellsRule, place_told}
-use Rattle.netlist.proofs.Decode.{so, yes_so}
+use Rattle.netlist.specs.Rules.{gate, first_broken}
+use Rattle.netlist.specs.Layout.{gates_bytes}
+use Rattle.netlist.specs.Step.{GatesTaken, Passed, Describes}
+use Rattle.netlist.proofs.Decode.{yes_so}
 use Rattle.netlist.proofs.Written.{gate_written, gate_valid, gate_size}
 
 pub bytes_append : (gs hs : List PlainGate) → gates_bytes (gs ++ hs) ≡ gates_bytes gs ++ gates_bytes hs

@@ -7,7 +7,7 @@ use Rattle.netlist.specs.Circuit.{PlainGate, all_below, valid_gate, good_head}
 use Rattle.records.specs.Record.{length_of, kind_of, payload_of, cut_short}
 use Rattle.netlist.specs.Rules.{head, gate, first_broken, code_of, least_of, greatest_of, pins_of, count_due}
 use Rattle.netlist.specs.Layout.{two_bytes, record_bytes, head_bytes, gate_bytes}
-use Rattle.netlist.proofs.Decode.{takes, yes_so, gate_payload}
+use Rattle.netlist.proofs.Decode.{takes, yes_so}
 
 payload_length : (bs : List ℕ) → cut_short bs ≡ false → length (payload_of bs) ≡ length_of bs
 payload_length bs h = grind (arith, nat_tests, common_steps)

@@ -9,7 +9,7 @@ use refusals::{Layer, Refusal};
 
 pub mod convert;
 
-// A fault of the circuit file, with the place of the record that has it.
+// A fault of the circuit file, with the place of the record that has it. The place stands in the variants: want of memory has none.
 #[derive(Clone, Copy, Debug, PartialEq, Eq)]
 pub enum CircuitFault {
     Record(RecordFault),

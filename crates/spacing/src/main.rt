@@ -20,10 +20,7 @@ fn main(rt: HostRuntime) -> io::Result<()> {
         match read_line(line) {
             Ok(separation) => match source.separate(separation.a, separation.b, separation.s) {
                 Ok(()) => println!(rt; "ok")?,
-                Err(fault) => {
-                    let refusal = fault.refusal().number;
-                    println!(rt; "no {refusal}")?;
-                }
+                Err(fault) => println!(rt; "no {}", fault.refusal().number)?,
             },
             Err(fault) => println!(rt; "line {number}: {fault}")?,
         }

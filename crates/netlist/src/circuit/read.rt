@@ -115,7 +115,8 @@ struct Head {
     gates: u8,
 }
 
-// The record at the reader's place, which is of the kind that is due.
+// The record at the reader's place, which is of the kind that is due. That the bytes stay is a clause here and below, and no fact of
+// the reader's type: it speaks of the reader before and after.
 fn read_record<'a>(reader: &mut Reader<'a>, due: Kind) -> Result<Record<'a>, CircuitFault>
     ensures same { reader.new.bytes.now ≡ reader.old.bytes.now }
     ensures taken { MatchResult result (λ r. Taken reader.old reader.new r × (r.kind ≡ kind_number due)) (λ e. NotOfKind (kind_number due) reader.old e) }

@@ -1,8 +1,7 @@
 -- What head and gates came to is the one outcome of the file.
-use Rattle.std.proofs.Common.{Err, vec_items, sym, ap, ◌∙◌, subst}
+use Rattle.std.proofs.Common.{vec_items, sym, ◌∙◌}
 use Rattle.std.proofs.lemmas.List.{length-map}
 use Rattle.std.proofs.lemmas.Result.{err_from_is_err_and}
-use Rattle.netlist.specs.Circuit.{PlainCircuit}
 use Rattle.netlist.specs.Plain.{plain_gate, plain_gates}
 use Rattle.netlist.specs.Outcome.{accepted}
 use Rattle.netlist.proofs.Files.{one_outcome, layout_determines, only, head_refused, gate_refused, file_accepted}
