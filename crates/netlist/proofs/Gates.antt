@@ -1,29 +1,27 @@
 -- Gates one after the other: one more gate behind those taken so far. Assumes nothing.
-use Rattle.std.proofs.Common.{◌≡◌, ℕ, ◌+◌, ◌<◌, T, List, [], ◌∷◌, ◌++◌, length, get_or, drop, Some, None, Option, sym, refl, ap, ◌∙◌, subst, append_assoc, append-nil, add-zero, add_assoc, arith, length-append, drop-drop}
+use Rattle.std.proofs.Common.{◌≡◌, ℕ, ◌+◌, ◌<◌, T, List, [], ◌∷◌, ◌++◌, length, get_or, drop, None, sym, refl, subst, add-zero, arith}
 use mathlib.Core.List.{map-append}
-use Rattle.std.proofs.lemmas.Bool.{and_parts, and_from}
-use Rattle.netlist.specs.declared.fault.CircuitFault.{CircuitFault}
+use Rattle.std.proofs.lemmas.List.{length-map}
+use Rattle.std.proofs.lemmas.Grind.{common_steps}
+use Rattle.records.specs.declared.reader.Reader.{Reader}
+use Rattle.records.specs.Next.{rest}
 use Rattle.netlist.specs.declared.gate.Gate.{Gate}
 use Rattle.netlist.specs.Circuit.{PlainGate, valid_gate, valid_gates}
 use Rattle.netlist.specs.Plain.{plain_gate, plain_gates}
 use Rattle.records.specs.Record.{length_of, payload_of}
-use Rattle.netlist.specs.Rules.{Rule, gate, first_broken}
-use Rattle.netlist.specs.Layout.{gate_bytes, gates_bytes}
-use Rattle.netlist.specs.Fault.{rule_of, place_of}
-use Rattle.netlist.specs.Step.{GatesTaken, Describes, Stops, StopsBy, Tells, TellsRule, place_told}
-use Rattle.netlist.proofs.Decode.{so, yes_so}
+use Rattle.netlist.specs.Rules.{gate, first_broken}
+use Rattle.netlist.specs.Layout.{gates_bytes}
+use Rattle.netlist.specs.Step.{GatesTaken, Passed, Describes}
+use Rattle.netlist.proofs.Decode.{yes_so}
 use Rattle.netlist.proofs.Written.{gate_written, gate_valid, gate_size}
 
 pub bytes_append : (gs hs : List PlainGate) → gates_bytes (gs ++ hs) ≡ gates_bytes gs ++ gates_bytes hs
 bytes_append [] hs = refl
-bytes_append (g ∷ gs) hs = ap (λ x. gate_bytes g ++ x) (bytes_append gs hs) ∙ sym (append_assoc (gate_bytes g) (gates_bytes gs) (gates_bytes hs))
+bytes_append (g ∷ gs) hs = grind (arith, common_steps, bytes_append gs hs)
 
-pub valid_more : (own : ℕ) (gs : List PlainGate) (g : PlainGate) → T (valid_gates own gs) → T (valid_gate (own + length gs) g) → T (valid_gates own (gs ++ g ∷ []))
-valid_more own [] g v w = yes_so _ (and_from _ _ (so _ (subst (λ n. T (valid_gate n g)) (add-zero own) w)) refl)
-valid_more own (h ∷ gs) g v w =
-    let both = and_parts (valid_gate own h) (valid_gates (own + 1) gs) (so _ v) in
-    let moved : own + length (h ∷ gs) ≡ (own + 1) + length gs = omega arith in
-    yes_so _ (and_from _ _ both.0 (so _ (valid_more (own + 1) gs g (yes_so _ both.1) (subst (λ n. T (valid_gate n g)) moved w))))
+valid_more : (own : ℕ) (gs : List PlainGate) (g : PlainGate) → T (valid_gates own gs) → T (valid_gate (own + length gs) g) → T (valid_gates own (gs ++ g ∷ []))
+valid_more own [] g v w = yes_so _ (grind (arith, common_steps))
+valid_more own (h ∷ gs) g v w = yes_so _ (grind (arith, common_steps, valid_more (own + 1) gs g))
 
 pub plain_more : (gs : List Gate) (g : Gate) → plain_gates (gs ++ g ∷ []) ≡ plain_gates gs ++ plain_gate g ∷ []
 plain_more gs g = map-append plain_gate gs (g ∷ [])
@@ -35,25 +33,19 @@ pub taken_more : (bytes : List ℕ) (place own : ℕ) (gs : List PlainGate) (at 
 taken_more bytes place own gs at next h taken follows held low0 low2 is =
     let kept = subst (λ n. first_broken (gate n) (drop at bytes) ≡ None) follows held in
     let bs = drop at bytes in
-    let after = at + 4 + length_of bs in
     let written = gate_written (own + length gs) bs kept h is.code is.least is.greatest is.pins low0 low2 is.low_least is.low_greatest in
     let size = gate_size (own + length gs) bs kept h is.code is.least is.greatest is.pins in
-    let more : gates_bytes (gs ++ h ∷ []) ≡ gates_bytes gs ++ gate_bytes h = bytes_append gs (h ∷ []) ∙ ap (λ x. gates_bytes gs ++ x) (append-nil (gate_bytes h)) in
-    let behind : drop (4 + length_of bs) bs ≡ drop after bytes = drop-drop (4 + length_of bs) at bytes ∙ ap (λ n. drop n bytes) (sym (add_assoc at 4 (length_of bs))) in
+    let more = bytes_append gs (h ∷ []) in
     record {
       valid = valid_more own gs h taken.valid (gate_valid (own + length gs) bs kept h is.code is.least is.greatest is.pins is.most);
-      stands =
-          taken.stands ∙ ap (λ x. gates_bytes gs ++ x) (written ∙ ap (λ x. gate_bytes h ++ x) behind) ∙ sym (append_assoc (gates_bytes gs) (gate_bytes h) (drop after bytes)) ∙ ap (λ x. x ++ drop after bytes) (sym more);
-      moved = omega (arith, taken.moved, ap length more, length-append (gates_bytes gs) (gate_bytes h), size);
+      stands = grind (arith, common_steps, taken.stands);
+      moved = grind (arith, common_steps, taken.moved);
     }
 
--- the record behind the gates taken so far breaks a rule
-stops_by : (o : Option Rule) (told : ℕ) (bytes : List ℕ) (place own announced : ℕ) (gs : List PlainGate) (at : ℕ) → GatesTaken bytes place own gs at → length gs < announced → TellsRule o (first_broken (gate (own + length gs)) (drop at bytes)) → told ≡ place_told o at → StopsBy o told bytes place own announced
-stops_by None told bytes place own announced gs at taken fewer broken there = tt
-stops_by (Some r) told bytes place own announced gs at taken fewer broken there =
-    record { gates = gs; after = at; fewer = fewer; taken = taken; broken = broken; there = there }
-
-pub stops : (e : CircuitFault) (bytes : List ℕ) (place own announced : ℕ) (gs : List PlainGate) (at next : ℕ) → GatesTaken bytes place own gs at → length gs < announced → next ≡ own + length gs → Tells e (first_broken (gate next) (drop at bytes)) at → Stops e bytes place own announced
-stops e bytes place own announced gs at next taken fewer is tells =
-    stops_by (rule_of e) (place_of e) bytes place own announced gs at taken fewer
-    (subst (λ n. TellsRule (rule_of e) (first_broken (gate n) (drop at bytes))) is tells.0) tells.1
+-- the reader takes one more gate behind those taken so far
+pub passed_more : (start before after : Reader) (own next : ℕ) (gs : List Gate) (g : Gate) → before.bytes.now ≡ start.bytes.now → GatesTaken start.bytes.now start.at own (plain_gates gs) before.at → next ≡ own + length gs → Passed (gate next) before after → Describes (payload_of (rest before)) (plain_gate g) → GatesTaken start.bytes.now start.at own (plain_gates (gs ++ g ∷ [])) after.at
+passed_more start before after own next gs g same taken follows passed is =
+    let here = subst (λ bs. GatesTaken bs start.at own (plain_gates gs) before.at) (sym same) taken in
+    let count : next ≡ own + length (plain_gates gs) = omega (arith, follows, length-map gs plain_gate) in
+    let more = taken_more before.bytes.now start.at own (plain_gates gs) before.at next (plain_gate g) here count passed.kept passed.low_length passed.low_kind is in
+    rw (plain_more gs g, passed.moved) (subst (λ bs. GatesTaken bs start.at own (plain_gates gs ++ plain_gate g ∷ []) (before.at + 4 + length_of (rest before))) same more)

@@ -3,7 +3,7 @@ use Rattle.std.specs.Prelude.{ℕ, Some, None, Option}
 use Rattle.std.specs.Option.{option_map}
 use Rattle.records.specs.Fault.{record_place}
 use Rattle.records.specs.declared.fault.RecordFault.{RecordFault}
-use Rattle.records.specs.declared.fault.Refusal.{Refusal}
+use Rattle.refusals.specs.declared.refusal.Refusal.{Refusal}
 use Rattle.netlist.specs.declared.fault.CircuitFault.{CircuitFault}
 use Rattle.netlist.specs.declared.fault.CircuitFault.TheVariants.{Record, Kind, Size, Limits, Code, PinCount, Pin, Delays, Memory}
 use Rattle.netlist.specs.Rules as rules

@@ -1,6 +1,7 @@
 -- The definitions that the contracts of this crate cite, by subject.
 pub mod Circuit
 pub mod Layout
+pub mod Kind
 pub mod Rules
 pub mod Plain
 pub mod View

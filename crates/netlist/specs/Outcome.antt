@@ -5,7 +5,7 @@ use Rattle.netlist.specs.declared.fault.CircuitFault.{CircuitFault}
 use Rattle.netlist.specs.Circuit.{PlainGate, PlainCircuit, valid_circuit, valid_gates, good_head}
 use Rattle.netlist.specs.Layout.{head_bytes, gates_bytes, layout}
 use Rattle.netlist.specs.Rules.{Due, head, gate, Rule, first_broken}
-use Rattle.records.specs.declared.fault.Refusal.{Refusal}
+use Rattle.refusals.specs.declared.refusal.Refusal.{Refusal}
 use Rattle.netlist.specs.Fault.{refusal, refusal_of}
 use Rattle.netlist.specs.View.{plain}
 

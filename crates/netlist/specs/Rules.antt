@@ -1,7 +1,7 @@
 -- The rules that each record of a circuit file keeps, with their numbers, and the order in which they are checked. Assumes nothing.
 use Rattle.std.specs.Prelude.{ℕ, Bool, true, cond, ◌&&◌, List, [], ◌∷◌, length, drop, Some, None, Option, ◌==◌, nat_le, nat_lt, slice_index}
-use Rattle.records.specs.declared.fault.Layer.{Layer}
-use Rattle.records.specs.declared.fault.Layer.TheVariants.{Reader, Circuit}
+use Rattle.refusals.specs.declared.refusal.Layer.{Layer}
+use Rattle.refusals.specs.declared.refusal.Layer.TheVariants.{Reader, Circuit}
 use Rattle.netlist.specs.Circuit.{all_below, good_head}
 use Rattle.records.specs.Record.{two, kind_of, payload_of, cut_short}
 

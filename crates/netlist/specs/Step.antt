@@ -1,14 +1,15 @@
 -- What taking one record off the reader comes to, for a head and for a gate. Assumes nothing.
-use Rattle.std.specs.Prelude.{◌≡◌, ℕ, ◌+◌, ◌<◌, ◌≤◌, true, false, T, ◌⊎◌, List, ◌++◌, length, drop, Some, None, Option, nat_le, slice_index, slice_index_or}
+use Rattle.std.specs.Prelude.{◌≡◌, ℕ, ◌+◌, ◌<◌, ◌≤◌, true, false, T, ◌⊎◌, List, ◌++◌, length, drop, Some, None, Option, ◌==◌, nat_le, slice_index, slice_index_or}
 use Rattle.functions.specs.Function.{described}
 use Rattle.records.specs.declared.reader.Reader.{Reader}
 use Rattle.netlist.specs.declared.circuit.read.GateFields.{GateFields}
 use Rattle.netlist.specs.declared.circuit.read.Head.{Head}
 use Rattle.netlist.specs.declared.fault.CircuitFault.{CircuitFault}
-use Rattle.netlist.specs.declared.fault.CircuitFault.TheVariants.{Code, PinCount}
+use Rattle.netlist.specs.declared.fault.CircuitFault.TheVariants.{Record, Kind, Code, PinCount}
+use Rattle.records.specs.declared.fault.RecordFault.TheVariants.{CutShort}
 use Rattle.netlist.specs.Circuit.{PlainGate, valid_gates}
 use Rattle.netlist.specs.Layout.{gates_bytes}
-use Rattle.records.specs.Record.{length_of}
+use Rattle.records.specs.Record.{length_of, kind_of, cut_short}
 use Rattle.netlist.specs.Rules.{Due, gate, Rule, size_due, code_of, least_of, greatest_of, pins_of, count_due, first_broken}
 use Rattle.netlist.specs.Fault.{rule_of, place_of}
 use Rattle.records.specs.Next.{rest}
@@ -26,6 +27,11 @@ TellsRule (Some r) broken = broken ≡ Some r
 -- the fault tells the first rule that the record breaks, and its place, unless memory was wanting
 abbrev pub Tells : CircuitFault → Option Rule → ℕ → Type 0
 Tells e broken place = TellsRule (rule_of e) broken × (place_of e ≡ place_told (rule_of e) place)
+
+-- the record at the reader's place is cut short, or its kind has another number
+abbrev pub NotOfKind : ℕ → Reader → CircuitFault → Type 0
+NotOfKind n before e =
+    ((e ≡ Record (CutShort before.at)) × (cut_short (rest before) ≡ true)) ⊎ ((e ≡ Kind before.at) × (cut_short (rest before) ≡ false) × ((kind_of (rest before) == n) ≡ false))
 
 -- the record keeps every rule and the reader has moved past it
 pub record Passed (due : Due) (before after : Reader) : Type 0 where

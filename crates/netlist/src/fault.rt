@@ -4,12 +4,13 @@ ghost use Rattle.netlist.specs.Fault.{record_refusal, refusal_of};
 ghost use Rattle.netlist.specs.declared.fault.CircuitFault.TheVariants.{Record};
 ghost use Rattle.records.specs.declared.fault.RecordFault.{RecordFault as ReaderFault};
 
-use records::{Layer, RecordFault, Refusal};
+use records::RecordFault;
+use refusals::{Layer, Refusal};
 
 pub mod convert;
 
-// A fault of the circuit file, with the place of the record that has it.
-#[derive(Clone, Copy)]
+// A fault of the circuit file, with the place of the record that has it. The place stands in the variants: want of memory has none.
+#[derive(Clone, Copy, Debug, PartialEq, Eq)]
 pub enum CircuitFault {
     Record(RecordFault),
     // the kind is not the one due here

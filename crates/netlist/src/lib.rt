@@ -4,7 +4,9 @@
 pub mod circuit;
 pub mod fault;
 pub mod gate;
+pub mod kind;
 
 pub use circuit::Circuit;
 pub use fault::CircuitFault;
 pub use gate::{Gate, Net};
+pub use kind::Kind;

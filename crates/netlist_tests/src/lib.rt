@@ -191,14 +191,11 @@ mod tests {
     #[test]
     fn cut_at_every_byte(rt: HostRuntime) -> Result<(), Fail> {
         for n in 0usize..37 {
-            let line = if n < 6 {
-                "no 3 R 0"
-            } else if n < 16 {
-                "no 3 R 6"
-            } else if n < 26 {
-                "no 3 R 16"
-            } else {
-                "no 3 R 26"
+            let line = match n {
+                0..6 => "no 3 R 0",
+                6..16 => "no 3 R 6",
+                16..26 => "no 3 R 16",
+                _ => "no 3 R 26",
             };
             expect(&rt, rt.alloc(), &BASE[0..n], line)?;
         }
@@ -239,9 +236,7 @@ mod tests {
     fn the_longest_record(rt: HostRuntime) -> Result<(), Fail> {
         let mut bytes = Vec::new(rt.alloc());
         bytes.extend_from_slice(&[2, 0, 1, 0, 1, 1, 255, 255, 2, 0])?;
-        for _ in 0u32..65_534 {
-            bytes.push(0)?;
-        }
+        bytes.resize(10 + 65_534, 0)?;
         expect(&rt, rt.alloc(), bytes.as_slice(), "no 3 R 6")?;
         bytes.push(0)?;
         expect(&rt, rt.alloc(), bytes.as_slice(), "no 5 C 6")

@@ -54,7 +54,7 @@ mod tests {
     fn number<S: OrderSource>(source: &mut S, a: u8, b: u8, s: i32) -> u8 {
         match source.separate(a, b, s) {
             Ok(()) => 0,
-            Err(fault) => fault.number(),
+            Err(fault) => fault.refusal().number,
         }
     }
 

@@ -1,9 +1,9 @@
 -- What a fault of the reader is: its place, and the refusal that it stands for. Assumes nothing.
 use Rattle.std.specs.Prelude.{ℕ}
-use Rattle.records.specs.declared.fault.Layer.TheVariants.{Reader}
+use Rattle.refusals.specs.declared.refusal.Layer.TheVariants.{Reader}
 use Rattle.records.specs.declared.fault.RecordFault.{RecordFault}
 use Rattle.records.specs.declared.fault.RecordFault.TheVariants.{CutShort}
-use Rattle.records.specs.declared.fault.Refusal.{Refusal}
+use Rattle.refusals.specs.declared.refusal.Refusal.{Refusal}
 
 -- the place of the record that is cut short
 abbrev pub record_place : RecordFault → ℕ

@@ -1,5 +1,4 @@
 -- The definitions that the contracts of this crate cite, by subject.
 pub mod Record
-pub mod Layer
 pub mod Fault
 pub mod Next

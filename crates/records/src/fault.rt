@@ -1,38 +1,11 @@
-// Why a file is refused: a fault of the reader, and the refusal that a fault is told as.
-ghost use Rattle.std.specs.Prelude.{◌≡◌, [], ◌∷◌, Some};
-ghost use Rattle.records.specs.Layer.{letter};
+// Why a record is not read: a fault of the reader, and the refusal that it is told as.
+ghost use Rattle.std.specs.Prelude.{◌≡◌};
 ghost use Rattle.records.specs.Fault.{record_refusal};
 
-use std::fmt;
-
-// The layer that finds a fault, printed as one letter.
-#[derive(Clone, Copy)]
-pub enum Layer {
-    Reader,
-    Circuit,
-}
-
-impl fmt::Display for Layer {
-    ghost output = { λ l. Some (letter l ∷ []) };
-
-    fn fmt<W: fmt::Write>(&self, f: &mut fmt::Formatter<W>) -> fmt::Result {
-        match self {
-            Layer::Reader => write!(f, "R"),
-            Layer::Circuit => write!(f, "C"),
-        }
-    }
-}
-
-// A refusal: its number, the layer that found it, and the place of the record in the file.
-#[derive(Clone, Copy)]
-pub struct Refusal {
-    pub number: u8,
-    pub layer: Layer,
-    pub place: usize,
-}
+use refusals::{Layer, Refusal};
 
 // A fault of the reader.
-#[derive(Clone, Copy)]
+#[derive(Clone, Copy, Debug, PartialEq, Eq)]
 pub enum RecordFault {
     // the record at this place is cut short, in its four head bytes or in its payload
     CutShort { place: usize },

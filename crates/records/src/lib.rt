@@ -1,8 +1,8 @@
-// Records over borrowed bytes, and what a file is refused with.
+// Records over borrowed bytes, and the fault of reading them.
 #![tactic(auto)]
 
 pub mod fault;
 pub mod reader;
 
-pub use fault::{Layer, RecordFault, Refusal};
+pub use fault::RecordFault;
 pub use reader::{Reader, Record};

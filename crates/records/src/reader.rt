@@ -3,7 +3,7 @@ ghost use Rattle.std.specs.Prelude.{◌≡◌, ◌≤◌, length};
 
 mod next;
 
-// the bytes, and the place of the next record
+// the bytes, and the place of the next record: an offset into the bytes, since each record and each fault tells its place
 #[derive(Drop)]
 pub struct Reader<'a> {
     bytes: &'a [u8],

@@ -2,7 +2,9 @@
 ghost use Rattle.std.specs.Prelude.{◌≡◌};
 ghost use Rattle.separations.specs.Fault.{told};
 
-#[derive(Clone, Copy)]
+use refusals::{Layer, Refusal};
+
+#[derive(Clone, Copy, Debug, PartialEq, Eq)]
 pub enum SeparationFault {
     // An input number above 15.
     NoSuchInput(u8),
@@ -15,38 +17,20 @@ pub enum SeparationFault {
 }
 
 impl SeparationFault {
-    pub fn number(self) -> u8
-        ensures { result ≡ (told self).number }
+    // The refusal that the fault is told as; the place is the input number that was refused, or 0.
+    pub fn refusal(self) -> Refusal
+        ensures { result ≡ told self }
     {
-        match self {
-            SeparationFault::NoSuchInput(_) => 9,
-            SeparationFault::NotTaken => 12,
-            SeparationFault::Malformed => 13,
-            SeparationFault::Contradictory => 14,
-        }
-    }
-
-    // The letter of the layer that refuses: B for the bench, S for the order source.
-    pub fn layer(self) -> char
-        ensures { result ≡ (told self).layer }
-    {
-        match self {
-            SeparationFault::NoSuchInput(_) => 'B',
-            SeparationFault::NotTaken
-            | SeparationFault::Malformed
-            | SeparationFault::Contradictory => 'S',
-        }
-    }
-
-    // The input number that was refused, or 0.
-    pub fn place(self) -> u8
-        ensures { result ≡ (told self).place }
-    {
-        match self {
-            SeparationFault::NoSuchInput(number) => number,
-            SeparationFault::NotTaken
-            | SeparationFault::Malformed
-            | SeparationFault::Contradictory => 0,
+        let (number, layer, place) = match self {
+            SeparationFault::NoSuchInput(input) => (9, Layer::Bench, usize::from(input)),
+            SeparationFault::NotTaken => (12, Layer::Source, 0),
+            SeparationFault::Malformed => (13, Layer::Source, 0),
+            SeparationFault::Contradictory => (14, Layer::Source, 0),
+        };
+        Refusal {
+            number,
+            layer,
+            place,
         }
     }
 }

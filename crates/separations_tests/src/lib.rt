@@ -9,7 +9,7 @@ mod tests {
     fn number(answer: Result<(), SeparationFault>) -> u8 {
         match answer {
             Ok(()) => 0,
-            Err(fault) => fault.number(),
+            Err(fault) => fault.refusal().number,
         }
     }
 

@@ -5,11 +5,12 @@ ghost use Rattle.netlist.specs.Outcome.{LayoutDetermines, OneOutcome};
 ghost use Rattle.netlist.specs.View.{plain};
 
 use netlist::Circuit;
-use records::Refusal;
+use refusals::Refusal;
 use std::alloc::{AllocError, Global};
 use std::fmt;
 
-#[derive(Clone, Copy)]
+// One line of output. An enum and no Result: a refusal is printed as a line like the others, and more kinds of lines will stand beside these.
+#[derive(Clone, Copy, Debug, PartialEq, Eq)]
 pub enum Line {
     // the circuit that was read: its inputs, its gates, and the bytes that it used
     Circuit {
@@ -25,20 +26,13 @@ impl fmt::Display for Line {
     ghost output = { λ l. Some (line_text l) };
 
     fn fmt<W: fmt::Write>(&self, f: &mut fmt::Formatter<W>) -> fmt::Result {
-        match *self {
+        match self {
             Line::Circuit {
                 inputs,
                 gates,
                 used,
             } => write!(f, "circuit {inputs} {gates} {used}"),
-            Line::No(refusal) => {
-                let Refusal {
-                    number,
-                    layer,
-                    place,
-                } = refusal;
-                write!(f, "no {number} {layer} {place}")
-            }
+            Line::No(refusal) => write!(f, "no {refusal}"),
         }
     }
 }
@@ -62,9 +56,6 @@ pub fn circuit_line(heap: Global, bytes: &[u8]) -> Result<Line, AllocError>
 {
     match Circuit::read(heap, bytes) {
         Ok((circuit, used)) => Ok(accepted_line(&circuit, used)),
-        Err(fault) => match fault.refusal() {
-            Some(refusal) => Ok(Line::No(refusal)),
-            None => Err(AllocError),
-        },
+        Err(fault) => fault.refusal().map(Line::No).ok_or(AllocError),
     }
 }

@@ -1,5 +1,5 @@
 // The parts of a circuit.
-ghost use Rattle.std.specs.Prelude.{◌≡◌, ◌≤◌, length, vec_len};
+ghost use Rattle.std.specs.Prelude.{◌≡◌, ◌≤◌, length};
 ghost use Rattle.netlist.specs.Circuit.{net_count};
 ghost use Rattle.netlist.specs.Plain.{plain_gates};
 ghost use Rattle.netlist.specs.View.{plain};
@@ -22,19 +22,12 @@ impl Circuit {
         self.gates.as_slice()
     }
 
-    // How many gates are stored.
-    fn stored(&self) -> usize
-        ensures { result ≡ vec_len self.now.gates }
-    {
-        self.gates.len()
-    }
-
     // How many gates there are.
     pub fn gate_count(&self) -> usize
         ensures value { result ≡ length (plain self.now).gates }
         ensures bound { result ≤ 240 }
     {
-        self.stored()
+        self.gates.len()
     }
 
     // How many nets there are: the inputs and the gates.

@@ -1,4 +1,5 @@
 // A fault of a lower layer inside a circuit fault, as `?` passes it on.
+// Written out and not derived, since the proofs of reading need to know which fault `?` makes.
 ghost use Rattle.std.specs.Prelude.{◌≡◌};
 ghost use Rattle.netlist.specs.declared.fault.CircuitFault.TheVariants.{Record, Memory};
 

@@ -1,22 +1,14 @@
--- Each turn looks at one more pin.
-use Rattle.std.proofs.Common.{◌≡◌, ℕ, ◌+◌, ◌<◌, ◌&&◌, ltb, List, length, get_or, drop, sym, ◌∙◌}
-use Rattle.std.proofs.lemmas.List.{at_drop_more, at_drop_all}
+-- `all` asks of each pin what the definition asks.
+use Rattle.std.proofs.Common.{◌≡◌, ℕ, ◌&&◌, ltb, List, refl, rules, tests}
+use Rattle.std.specs.List.{list_all}
+use Rattle.std.proofs.lemmas.Iterator.{YieldsList-from_slice}
+use Rattle.std.proofs.lemmas.Iterator.Search.{all_from_yields_List}
+use Rattle.std.proofs.lemmas.List.Recursion.{same_from_clauses}
 use Rattle.netlist.specs.Circuit.{all_below}
 use Rattle.netlist.proofs.circuit.read.all_below.Goals as goal
 
--- the pin at hand and those behind it
-next_pin : (n : ℕ) (xs : List ℕ) (i : ℕ) → i < length xs → all_below n (drop i xs) ≡ (ltb (get_or xs i 0) n && all_below n (drop (i + 1) xs))
-next_pin n xs i h = at_drop_more (all_below n) xs i 0 h
-
-pub loop-pin-preserved : goal.loop-pin-preserved
-loop-pin-preserved c =
-    let low = sym c.if-not-is_below.ensures in
-    c.loop-pin.invariant ∙ rw low at (next_pin c.args.limit c.args.pins.now c.loop-pin.pin-index c.loop-pin-test.true)
-
-pub returns-then-not-is_below : goal.returns-then-not-is_below
-returns-then-not-is_below c =
-    let high = sym c.if-not-is_below.ensures in
-    sym (c.loop-pin.invariant ∙ rw high at (next_pin c.args.limit c.args.pins.now c.loop-pin.pin-index c.loop-pin-test.true))
+all_below-is : (limit : ℕ) (pins : List ℕ) → all_below limit pins ≡ list_all (λ n. ltb n limit) pins
+all_below-is limit = same_from_clauses (all_below limit) (list_all (λ n. ltb n limit)) (λ n rest. ltb n limit && rest) refl (λ _ _. refl) (λ _ _. refl)
 
 pub returns : goal.returns
-returns c = sym (c.loop-pin.invariant ∙ at_drop_all (all_below c.args.limit) _ _ c.loop-pin-test.false)
+returns c = rw all_below-is (all_from_yields_List (λ n. ltb n c.args.limit) _ _ _ c.all.ensures.ran (YieldsList-from_slice c.args.pins.now cc) (λ x b q k. search (rules, tests)))

@@ -1,0 +1,27 @@
+// The kinds of records in a file.
+ghost use Rattle.netlist.specs.Kind.{Decodes};
+
+// A kind of record. One more kind is a variant here, an arm below and a number in the definition.
+#[derive(Clone, Copy, Debug, PartialEq, Eq)]
+pub enum Kind {
+    Head,
+    Gate,
+}
+
+// A number that no kind has.
+#[derive(Clone, Copy, Debug, PartialEq, Eq)]
+pub struct UnknownKind(pub u16);
+
+impl TryFrom<u16> for Kind {
+    type Error = UnknownKind;
+
+    ghost try_from_gives = { Decodes };
+
+    fn try_from(number: u16) -> Result<Kind, UnknownKind> {
+        match number {
+            1 => Ok(Kind::Head),
+            2 => Ok(Kind::Gate),
+            _ => Err(UnknownKind(number)),
+        }
+    }
+}

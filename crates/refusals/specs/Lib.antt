@@ -1,0 +1,3 @@
+-- The definitions that the contracts of this crate cite, by subject.
+pub mod Layer
+pub mod Refusal
