@@ -7,7 +7,7 @@
 use answers::answer_lines;
 use ordering::{OrderSource, Spaced};
 use separations::SeparationFault;
-use spacinglines::{Line, LineFault, read_line};
+use spacinglines::{Line, LineFault};
 use std::{fmt, io};
 
 // What comes of a separation that a source is given.
@@ -29,7 +29,7 @@ impl fmt::Display for Reply {
 fn main(rt: HostRuntime) -> io::Result<()> {
     let mut source = Spaced::new();
     answer_lines(&rt, |line| -> Result<Reply, LineFault> {
-        let Line { a, b, s } = read_line(line)?;
+        let Line { a, b, s } = line.parse()?;
         Ok(Reply(source.separate(a, b, s)))
     })?;
     // the source tells of one pair of inputs at a time, and lists none
