@@ -7,7 +7,7 @@
 use answers::Answer;
 use ordering::{OrderSource, Spaced};
 use separations::SeparationFault;
-use spacinglines::{Line, read_line};
+use spacinglines::Line;
 use std::io::Read;
 use std::{fmt, io};
 
@@ -32,7 +32,9 @@ fn main(rt: HostRuntime) -> io::Result<()> {
     let text = String::from_utf8_lossy(rt.alloc(), &bytes)?;
     let mut source = Spaced::new();
     for (number, line) in (1u64..).zip(text.lines()) {
-        let outcome = read_line(line).map(|Line { a, b, s }| Reply(source.separate(a, b, s)));
+        let outcome = line
+            .parse()
+            .map(|Line { a, b, s }| Reply(source.separate(a, b, s)));
         println!(rt; "{}", Answer { number, outcome })?;
     }
     for a in 0..16u8 {

@@ -5,4 +5,4 @@ pub mod fault;
 pub mod line;
 
 pub use fault::LineFault;
-pub use line::{Line, read_line};
+pub use line::Line;
