@@ -4,6 +4,7 @@ ghost use Rattle.separations.specs.Separations.{spacing_at};
 ghost use Rattle.separations.specs.Check.{raised, Limited, Moderate, latest, passed, times_after};
 
 use crate::table::{INPUTS, Spacings};
+use std::array;
 
 // The time, raised where the spacing after the other time asks it.
 fn raise(spacing: Option<i32>, from: u64, time: u64) -> u64
@@ -44,11 +45,7 @@ fn pass(spacing: &Spacings, times: &[u64; INPUTS]) -> [u64; INPUTS]
     requires { (Limited spacing.now) × (Moderate times.now) }
     ensures { result ≡ passed spacing.now times.now }
 {
-    let mut next = [0; INPUTS];
-    for b in 0..INPUTS {
-        next[b] = time_after(spacing, times, b);
-    }
-    next
+    array::from_fn(|b| time_after(spacing, times, b))
 }
 
 // The times after sixteen passes.
