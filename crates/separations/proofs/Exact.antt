@@ -6,7 +6,11 @@ use Rattle.std.proofs.lemmas.Int.{ints}
 use Rattle.std.proofs.lemmas.Bool.{and_parts, and_from, eqb-true, eq-eqb, cases_lt, ltb-true, or_cases}
 use Rattle.std.proofs.lemmas.Bool.Decides.{nat_tests}
 use Rattle.std.specs.List.{list_all, AllByRecursion}
-use Rattle.separations.specs.Separations.{Separation, separation, Meets, MeetsAll, Contradictory, WellFormed, Table, spacing_at, spacing_in, spacing_of, larger_than, placed, with_larger, held, is_full, is_formed}
+use Rattle.separations.specs.Separations.{Separation, separation, Meets, MeetsAll, WellFormed, Table, spacing_at, spacing_in, spacing_of, larger_than, placed, with_larger, held, is_full, is_formed}
+use Rattle.separations.specs.Answer.{Accepted, Refused}
+use Rattle.separations.specs.declared.fault.SeparationFault.TheVariants as fault
+use Rattle.separations.specs.declared.table.Spacings.{Spacings}
+use Rattle.separations.specs.declared.table.Separation.{Separation as New}
 use Rattle.separations.specs.Check.{whole, Limited, times_after}
 use Rattle.separations.proofs.Passes.{time_after, whole_is}
 use Rattle.separations.proofs.Sums.{sum_of, sum_part}
@@ -141,38 +145,52 @@ formed_limited table e a b s g h at =
 
 -- ---- one more separation
 
--- a table with a further separation put in
-pub record Next (table next : Table) (a b : ℕ) (s : ℤ) : Type 0 where
-  pub full : is_full table ≡ true
-  pub formed : list_all is_formed (held table) ≡ true
-  pub first : a ≤ 15
-  pub second : b ≤ 15
-  pub one : is_formed (separation a b s) ≡ true
-  pub put : next ≡ placed table a b s
+module _ (old : Spacings) (new : New) where
+  -- the table with the separation put in
+  abbrev next : Table
+  next = placed old.rows new.a new.b new.s
 
-module _ {table next : Table} {a b : ℕ} {s : ℤ} (n : Next table next a b s) where
-  pub next_held : held next ≡ with_larger a b s (held table)
-  next_held = ap held n.put ∙ held_put table n.full a b s (omega arith) (omega arith)
+  pub placed_held : held next ≡ with_larger new.a new.b new.s (held old.rows)
+  placed_held =
+      let first = new.first in
+      let second = new.second in held_put old.rows old.full new.a new.b new.s (omega arith) (omega arith)
 
-  pub next_full : is_full next ≡ true
-  next_full = ap is_full n.put ∙ full_put table n.full a b s (omega arith)
+  pub placed_full : is_full next ≡ true
+  placed_full = let first = new.first in full_put old.rows old.full new.a new.b new.s (omega arith)
 
-  pub next_formed : list_all is_formed (held next) ≡ true
-  next_formed =
-      rw next_held
-      (all_passes is_formed (with_larger a b s (held table))
-      (put_all (λ x. is_formed x ≡ true) a b s (held table) n.one (pass_all is_formed (held table) n.formed)))
+  pub placed_formed : list_all is_formed (held next) ≡ true
+  placed_formed =
+      rw placed_held
+      (all_passes is_formed (with_larger new.a new.b new.s (held old.rows))
+      (put_all (λ x. is_formed x ≡ true) new.a new.b new.s (held old.rows) new.formed
+      (pass_all is_formed (held old.rows) old.formed)))
 
-  pub next_limited : Limited next
-  next_limited = formed_limited next next_formed
+  -- no times meet the separation and all that were held, if a pass after the sixteenth raises one
+  pub placed_refused :
+      (times_after next 17 ≡ times_after next 16 → ⊥) → Refused true (held old.rows) new.a new.b new.s fault.Contradictory
+  placed_refused unsettled = (
+    new.first,
+    new.second,
+    refl,
+    formed_is (separation new.a new.b new.s) new.formed,
+    λ times m.
+        unsettled
+        (met_settles next times (rw placed_held (put_all (Meets times) new.a new.b new.s (held old.rows) m.0 m.1))),
+  )
 
-  -- the times of a table that settles meet the separation and all that were held
-  pub next_met :
-      times_after next 17 ≡ times_after next 16 → MeetsAll (λ i. pos (time_after next 16 i)) (separation a b s ∷ held table)
-  next_met e =
-      put_both (λ i. pos (time_after next 16 i)) a b s (held table) (rw next_held at (settled_meets next next_full e))
-
-  -- no times do if it does not settle
-  pub next_refused : (times_after next 17 ≡ times_after next 16 → ⊥) → Contradictory (separation a b s ∷ held table)
-  next_refused unsettled times m =
-      unsettled (met_settles next times (rw next_held (put_all (Meets times) a b s (held table) m.0 m.1)))
+  -- the times of a table that settles meet them
+  pub placed_accepted :
+      (now : Spacings) → now.rows ≡ next → times_after now.rows 17 ≡ times_after now.rows 16 →
+      Accepted true (held old.rows) new.a new.b new.s (held now.rows)
+  placed_accepted now put settled =
+      record {
+        first = new.first;
+        second = new.second;
+        taken = refl;
+        formed = formed_is (separation new.a new.b new.s) new.formed;
+        times = λ i. pos (time_after now.rows 16 i);
+        met =
+            put_both (λ i. pos (time_after now.rows 16 i)) new.a new.b new.s (held old.rows)
+            (rw (ap held put, placed_held) at (settled_meets now.rows now.full settled));
+        larger = ap held put ∙ placed_held;
+      }
