@@ -4,6 +4,7 @@ ghost use Rattle.std.specs.List.{list_all};
 ghost use Rattle.separations.specs.Separations.{separation, held, is_full, is_formed};
 ghost use Rattle.separations.specs.Check.{times_after};
 
+mod held;
 mod hold;
 mod place;
 
