@@ -1,6 +1,10 @@
 -- What a fold over an iterator keeps from place to place. Assumes nothing.
-use Rattle.std.proofs.Common.{◌≡◌, ℕ, ◌+◌, ◌<◌, List, [], ◌∷◌, ◌++◌, length, get_or, Some, None, Option, refl, sym, ap, ◌∙◌, subst, length-append, arith}
-use Rattle.std.proofs.lemmas.Iterator.{YieldsList}
+use Rattle.std.proofs.Common.{Bor, Iter, ◌≡◌, ℕ, ◌+◌, ◌<◌, List, [], ◌∷◌, ◌++◌, length, get_or, Some, None, Option, refl, sym, ap, ◌∙◌, subst, length-append, arith}
+use Rattle.std.proofs.lemmas.Iterator.{YieldsList, YieldsList-from_slice, YieldsList-from_zip, zips}
+use Rattle.std.proofs.lemmas.Fn.{fronts}
+use Rattle.std.specs.declared.iter.Zip.{Zip}
+use Rattle.std.specs.Iterator.Adapters.{zip_first, zip_second}
+use Rattle.std.specs.Slice.Iter.{iter_rest}
 use Rattle.std.proofs.lemmas.Iterator.Consumers.{YieldsList-turn, YieldsList-end}
 use Rattle.std.proofs.lemmas.List.{get_or_read}
 use Rattle.std.proofs.lemmas.Slice.Zip.{length-zip, get_or-zip}
@@ -57,17 +61,57 @@ module _
             (takes (length xs) q.1 x turn.0 turn.1 (subst (λ n. J n q.1) same so_far.1));
       }
 
--- the pair at a place of a zip
-pub zip_at :
-    {A B : Type 0} (ks : List A) (vs : List B) (k : ℕ) (a d : A) (b e : B) → k < length (zip ks vs) →
-    (a, b) ≡ get_or (zip ks vs) k (a, b) → (k < length ks) × (k < length vs) × (a ≡ get_or ks k d) × (b ≡ get_or vs k e)
-zip_at {A} {B} ks vs k a d b e l h =
-    let long = length-zip ks vs in
-    let first : k < length ks = omega arith in
-    let second : k < length vs = omega arith in
-    let pair = h ∙ get_or-zip ks vs k (a, b) first second in (
-      first,
-      second,
-      get_or_read ks k a first (ap (λ (p : A × B). p.0) pair) d,
-      get_or_read vs k b second (ap (λ (p : A × B). p.1) pair) e,
-    )
+-- a fold over a zip of two slices
+module _
+    {A B C F : Type 0} (ks : List A) (vs : List B) (s : Zip (Iter A) (Iter B)) (first : iter_rest (zip_first s) ≡ ks)
+    (second : iter_rest (zip_second s) ≡ vs) (g : Mut F (C × ((Bor A × Bor B) × Unit {0})) C) (f : F) (J : ℕ → C → Type 0)
+  where
+    -- the pair is that of the place
+    pub record Pair (k : ℕ) (x : Bor A × Bor B) : Type 0 where
+      pub low : k < length ks
+      pub high : k < length vs
+      pub left : (d : A) → x.0.now ≡ get_or ks k d
+      pub right : (e : B) → x.1.now ≡ get_or vs k e
+
+    pairs : YieldsList (zips fronts fronts) (λ p. (p.0.now, p.1.now)) s (zip ks vs)
+    pairs = YieldsList-from_zip (YieldsList-from_slice ks first) (YieldsList-from_slice vs second)
+
+    pair_at :
+        (k : ℕ) (x : Bor A × Bor B) → k < length (zip ks vs) →
+        (x.0.now, x.1.now) ≡ get_or (zip ks vs) k (x.0.now, x.1.now) → Pair k x
+    pair_at k x l h =
+        let long = length-zip ks vs in
+        let low : k < length ks = omega arith in
+        let high : k < length vs = omega arith in
+        let pair = h ∙ get_or-zip ks vs k (x.0.now, x.1.now) low high in
+        record {
+          low = low;
+          high = high;
+          left = get_or_read ks k x.0.now low (ap (λ (p : A × B). p.0) pair);
+          right = get_or_read vs k x.1.now high (ap (λ (p : A × B). p.1) pair);
+        }
+
+    abbrev pub KeepsAlong : Type 0
+    KeepsAlong =
+        (k : ℕ) (a : C) (x : Bor A × Bor B) (b : C) (q : F) → Pair k x → J k a → Called g f (a, (x, tt)) b q →
+        (q ≡ f) × J (k + 1) b
+
+    keeps_at : KeepsAlong → Keeps pairs g f J
+    keeps_at keeps k a x b q l h j call = keeps k a x b q (pair_at k x l h) j call
+
+    -- the result of the fold
+    pub zip_reaches :
+        KeepsAlong → (n : ℕ) (init r : C) → length ks ≡ n → length vs ≡ n → J 0 init →
+        FoldsItems (zips fronts fronts) g s f init r → J n r
+    zip_reaches keeps n init r e h j ran =
+        let long = length-zip ks vs in
+        let same : length (zip ks vs) ≡ n = omega arith in
+        subst (λ n. J n r) same (fold_reaches pairs g f J (keeps_at keeps) init r j ran)
+
+    -- the closure may be called at each pair
+    pub zip_serves :
+        KeepsAlong → (init : C) → J 0 init →
+        ((k : ℕ) (a : C) (x : Bor A × Bor B) → Pair k x → J k a → Takes g f (a, (x, tt))) →
+        CallableInFold (zips fronts fronts) g s f init
+    zip_serves keeps init j takes =
+        fold_serves pairs g f J (keeps_at keeps) init j (λ k a x l h j. takes k a x (pair_at k x l h) j)
