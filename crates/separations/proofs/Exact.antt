@@ -1,5 +1,5 @@
 -- What the test tells of the list that a table of sixteen rows holds. Assumes nothing.
-use Rattle.std.proofs.Common.{◌≡◌, ℕ, ◌<◌, ◌≤◌, Bool, true, eqb, List, [], length, get_or, set, ℤ, pos, negsuc, ◌+ℤ◌, nat_abs, Some, Option, sym, refl, ap, ◌∙◌, arith}
+use Rattle.std.proofs.Common.{None, ◌≡◌, ℕ, ◌<◌, ◌≤◌, Bool, true, eqb, List, [], length, get_or, set, ℤ, pos, negsuc, ◌+ℤ◌, nat_abs, Some, Option, sym, refl, subst, replicate, ap, ◌∙◌, arith}
 use Rattle.std.proofs.lemmas.List.Elements.{All-from_recursion, recursion_from_All}
 use Rattle.std.proofs.lemmas.List.Sums.{AllPass-from_list_all, list_all-from_AllPass}
 use Rattle.std.proofs.lemmas.List.Recursion.{and_at, and_set}
@@ -13,8 +13,8 @@ use Rattle.separations.specs.Answer.{Accepted, Refused}
 use Rattle.separations.specs.declared.fault.SeparationFault.TheVariants as fault
 use Rattle.separations.specs.declared.table.Spacings.{Spacings}
 use Rattle.separations.specs.declared.table.Separation.{Separation as New}
-use Rattle.separations.specs.Check.{whole, Limited, times_after}
-use Rattle.separations.proofs.Passes.{time_after, whole_is}
+use Rattle.separations.specs.Check.{whole, Limited, Moderate, times_after}
+use Rattle.separations.proofs.Passes.{time_after, whole_is, after_moderate}
 use Rattle.separations.proofs.Sums.{sum_of, sum_part}
 use Rattle.separations.proofs.Complete.{complete, sound}
 use Rattle.separations.proofs.Lists.{table_all, table_at, table_put, table_in, put_all, put_both}
@@ -104,6 +104,12 @@ met_settles table times h =
     let at_a = moved_up (times a) k (sum_part (λ i. nat_abs (times i)) 16 a g) in
     let at_b = moved_up (times b) k (sum_part (λ i. nat_abs (times i)) 16 b l) in omega (arith, ints))
 
+-- without any spacing none is raised at all
+pub empty_settles :
+    (table : Table) → table ≡ replicate 16 (replicate 16 None) → times_after table 17 ≡ times_after table 16
+empty_settles table e =
+    met_settles table (λ i. pos 0) (subst (λ (table : Table). MeetsAll (λ i. pos 0) (held table)) (sym e) tt)
+
 -- ---- well-formed separations
 
 pub formed_is : (x : Separation) → is_formed x ≡ true → WellFormed x.a x.b x.s
@@ -116,6 +122,10 @@ pub formed_limited : (table : Table) → list_all is_formed (held table) ≡ tru
 formed_limited table e a b s g h at =
     (formed_is (separation a b s) (held_at (λ x. is_formed x ≡ true) table (pass_all is_formed (held table) e) a b s at)
     ).greatest
+
+-- the times of up to sixteen passes over well-formed separations
+pub formed_moderate : (x : Spacings) (times : List ℕ) (k : ℕ) → k ≤ 16 → times ≡ times_after x.rows k → Moderate times
+formed_moderate x = after_moderate x.rows (formed_limited x.rows x.formed)
 
 -- ---- one more separation
 
@@ -154,10 +164,11 @@ module _ (old : Spacings) (new : New) where
 
   -- the times of a table that settles meet them
   pub placed_accepted :
-      (now : Spacings) → now.rows ≡ next → times_after now.rows 17 ≡ times_after now.rows 16 →
-      Accepted true (held old.rows) new.a new.b new.s (held now.rows)
-  placed_accepted now put settled =
-      record {
+      (now : Spacings) (a b : ℕ) (s : ℤ) → now.rows ≡ next → times_after now.rows 17 ≡ times_after now.rows 16 →
+      new.a ≡ a → new.b ≡ b → new.s ≡ s → Accepted true (held old.rows) a b s (held now.rows)
+  placed_accepted now a b s put settled p q r =
+      rw (← p, ← q, ← r)
+      (record {
         first = new.first;
         second = new.second;
         taken = refl;
@@ -167,4 +178,4 @@ module _ (old : Spacings) (new : New) where
             put_both (λ i. pos (time_after now.rows 16 i)) new.a new.b new.s (held old.rows)
             (rw (ap held put, placed_held) at (settled_meets now.rows now.full settled));
         larger = ap held put ∙ placed_held;
-      }
+      })

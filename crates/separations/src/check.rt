@@ -42,7 +42,7 @@ impl Spacings {
     }
 
     // The times after sixteen passes.
-    #[tactic(auto, using(crate::proofs::Passes::after_none, crate::proofs::Passes::after_more, crate::proofs::Passes::after_moderate, crate::proofs::Exact::formed_limited))]
+    #[tactic(auto, using(crate::proofs::Passes::after_none, crate::proofs::Passes::after_more, crate::proofs::Exact::formed_moderate))]
     fn passes(&self) -> Times
         ensures { result.at ≡ times_after self.now.rows 16 }
     {

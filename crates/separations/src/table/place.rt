@@ -24,7 +24,7 @@ fn input(number: u8) -> Result<u8, SeparationFault>
 impl Separation {
     // The separation (a, b, s), if it is one of two inputs and well formed.
     pub(super) fn new(a: u8, b: u8, s: i32) -> Result<Separation, SeparationFault>
-        ensures { MatchResult result (λ x. separation x.a x.b x.s ≡ separation a b s) (λ e. (xs : List Held) → Refused true xs a b s e) }
+        ensures { MatchResult result (λ x. (x.a ≡ a) × (x.b ≡ b) × (x.s ≡ s)) (λ e. (xs : List Held) → Refused true xs a b s e) }
     {
         let a = input(a)?;
         let b = input(b)?;
