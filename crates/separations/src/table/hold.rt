@@ -34,7 +34,7 @@ impl Separations {
     }
 
     // Holds that every flip of b comes at least s ticks after every flip of a, beside all that is held.
-    #[tactic(auto, using(crate::proofs::Exact::placed_accepted, crate::proofs::Exact::placed_refused))]
+    #[tactic(auto, using(crate::proofs::Exact::placed_refused))]
     pub fn hold(&mut self, a: u8, b: u8, s: i32) -> Result<(), SeparationFault>
         ensures { Answered true held_by self.old a b s result self.new }
     {
