@@ -17,9 +17,9 @@ fn raise(spacing: Option<i32>, from: u64, time: u64) -> u64
     requires { (((s : ℤ) → spacing ≡ Some s → s ≤ℤ pos 65535)) × (from ≤ 2 ^ 20) }
     ensures { result ≡ raised spacing from time }
 {
-    spacing.map_or(time, |s| {
-        u64::try_from(from as i64 + i64::from(s)).map_or(time, |sum| sum.max(time))
-    })
+    let Some(s) = spacing else { return time };
+    let sum = from as i64 + i64::from(s);
+    u64::try_from(sum).map_or(time, |sum| sum.max(time))
 }
 
 impl Spacings {

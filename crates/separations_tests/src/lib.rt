@@ -7,10 +7,7 @@ mod tests {
 
     // 0 for an acceptance, else the number of the refusal.
     fn number(answer: Result<(), SeparationFault>) -> u8 {
-        match answer {
-            Ok(()) => 0,
-            Err(fault) => fault.number(),
-        }
+        answer.err().map_or(0, SeparationFault::number)
     }
 
     #[test]
