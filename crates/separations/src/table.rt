@@ -8,6 +8,8 @@ mod held;
 mod hold;
 mod place;
 
+pub use held::Iter;
+
 // How many inputs a circuit may have.
 pub(crate) const INPUTS: usize = 16;
 

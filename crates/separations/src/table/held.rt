@@ -10,14 +10,14 @@ use std::marker::Model;
 // The separations that are held and were not given yet, seen as a list: what is left of row a, from column b on, and the
 // rows after it.
 #[derive(Drop)]
-pub struct Held<'a> {
+pub struct Iter<'a> {
     a: u8,
     b: u8,
     row: &'a [Option<i32>],
     rows: &'a [[Option<i32>; INPUTS]],
 }
 
-impl<'a> Model for Held<'a> {
+impl<'a> Model for Iter<'a> {
     ghost use Rattle.std.specs.Prelude.{◌≡◌, ℕ, ◌+◌, ◌≤◌, true, nat_eq, length, List};
     ghost use Rattle.std.specs.List.{list_all};
     ghost use Rattle.separations.specs.Separations.{Separation, held_in_row, held_from};
@@ -31,11 +31,11 @@ impl<'a> Model for Held<'a> {
 
 impl Separations {
     // The separations that are held, by rising a, then by rising b.
-    pub fn iter(&self) -> Held<'_>
+    pub fn iter(&self) -> Iter<'_>
         ensures { result ≡ held_by self.now }
     {
         let rows = &self.spacings.rows[..];
-        Held {
+        Iter {
             a: 0,
             b: 0,
             row: &rows[0],
@@ -44,7 +44,7 @@ impl Separations {
     }
 }
 
-impl<'a> Iterator for Held<'a> {
+impl<'a> Iterator for Iter<'a> {
     type Item = (u8, u8, i32);
 
     ghost next_gives = { YieldsFirstBy (λ x. separation x.0 x.1 x.2) (λ rest. rest) };

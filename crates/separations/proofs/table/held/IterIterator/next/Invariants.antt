@@ -2,7 +2,7 @@
 use Rattle.std.proofs.Common.{◌≡◌, ◌+◌, ◌*◌, ◌≤◌, true, nat_eq, length}
 use Rattle.std.specs.List.{list_all}
 use Rattle.separations.specs.Separations.{held_in_row, held_from}
-use Rattle.separations.proofs.table.held.HeldIterator.next.Given as goal
+use Rattle.separations.proofs.table.held.IterIterator.next.Given as goal
 
 abbrev pub invariant-loop-place : goal.invariant-loop-place
 invariant-loop-place l =
