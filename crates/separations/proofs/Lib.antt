@@ -1,4 +1,6 @@
 -- The lemmas of this crate, by subject.
+pub mod Arrays
+pub mod Folds
 pub mod Passes
 pub mod Sums
 pub mod Complete

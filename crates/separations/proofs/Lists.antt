@@ -6,10 +6,6 @@ use Rattle.std.proofs.lemmas.Bool.Decides.{nat_tests}
 use Rattle.std.specs.List.{AllByRecursion}
 use Rattle.separations.specs.Separations.{Separation, separation, Meets, MeetsAll, Table, spacing_in, is_of, precedes, larger, larger_than, placed, with_larger, held_in_row, held_from}
 
--- no value stands where none does
-none_some : {X : Type 0} (s : ℤ) → None ≡ Some s → X
-none_some s e = let z : ◌≡◌ {A = ℕ} 0 1 = cc in absurd (omega arith)
-
 module _ (P : Separation → Type 0) where
   -- what holds of each place of a row holds of each separation that is read off it
   row_all :
@@ -27,8 +23,8 @@ module _ (P : Separation → Type 0) where
   row_at_lem :
       (a b : ℕ) (row : List (Option ℤ)) (rest : List Separation) → AllByRecursion P (held_in_row a b row rest) →
       (j c : ℕ) (s : ℤ) → b + j ≡ c → get_or row j None ≡ Some s → P (separation a c s)
-  row_at_lem a b [] rest h j c s p e = none_some s e
-  row_at_lem a b (None ∷ row) rest h zero c s p e = none_some s e
+  row_at_lem a b [] rest h j c s p e = cc
+  row_at_lem a b (None ∷ row) rest h zero c s p e = cc
   row_at_lem a b (None ∷ row) rest h (suc j) c s p e = row_at_lem a (b + 1) row rest h j c s (omega arith) e
   row_at_lem a b (Some x ∷ row) rest h zero c s p e =
       let q : b ≡ c = omega arith in
@@ -57,7 +53,7 @@ module _ (P : Separation → Type 0) where
   pub table_at :
       (a : ℕ) (table : Table) → AllByRecursion P (held_from a table) →
       (i c b : ℕ) (s : ℤ) → a + i ≡ c → get_or (get_or table i []) b None ≡ Some s → P (separation c b s)
-  table_at a [] h i c b s p e = none_some s e
+  table_at a [] h i c b s p e = cc
   table_at a (row ∷ rows) h zero c b s p e =
       let q : a ≡ c = omega arith in
       subst (λ (i : ℕ). P (separation i b s)) q (row_at_lem a 0 row (held_from (a + 1) rows) h b b s (omega arith) e)
@@ -244,7 +240,7 @@ table_in a (suc i) c b (row ∷ rows) p =
 pub found :
     (P : Separation → Type 0) (a b : ℕ) (s : ℤ) (xs : List Separation) → AllByRecursion P xs → spacing_in a b xs ≡ Some s →
     P (separation a b s)
-found P a b s [] h e = none_some s e
+found P a b s [] h e = cc
 found P a b s (x ∷ xs) h e = go (is_of a b x) refl (found P a b s xs h.1) e
   where
     go :

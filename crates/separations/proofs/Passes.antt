@@ -1,5 +1,5 @@
 -- Lemmas on passes: they raise times, no further than any times that meet the table, and by 65,535 at the most. Assumes nothing.
-use Rattle.std.proofs.Common.{◌≡◌, ℕ, zero, suc, ◌+◌, ◌*◌, ◌<◌, ◌≤◌, ◌⊎◌, List, length, get_or, ℤ, pos, negsuc, ◌+ℤ◌, ◌≤ℤ◌, ◌<ℤ◌, Some, None, Option, sym, refl, ap, ◌∙◌, subst, inl, inr, ⊎_elim, add-one, arith}
+use Rattle.std.proofs.Common.{◌≡◌, ℕ, zero, suc, ◌+◌, ◌*◌, ◌<◌, ◌≤◌, ◌⊎◌, List, [], length, get_or, replicate, ℤ, pos, negsuc, ◌+ℤ◌, ◌≤ℤ◌, ◌<ℤ◌, Some, None, Option, sym, refl, ap, ◌∙◌, subst, inl, inr, ⊎_elim, add-one, arith}
 use Rattle.std.proofs.lemmas.List.FromFn.{get_or-map-range_with_len, length-map-range_with_len}
 use Rattle.std.proofs.lemmas.List.{get_or-replicate}
 use Rattle.std.proofs.lemmas.Int.{ints}
@@ -70,10 +70,10 @@ module _ (table : Table) (times : List ℕ) (b : ℕ) where
 
   -- one input more
   pub latest_more :
-      (n time : ℕ) → time ≡ latest table times b n →
-      raised (spacing_at table n b) (get_or times n 0) time ≡ latest table times b (n + 1)
+      (n time from : ℕ) (row : List (Option ℤ)) → time ≡ latest table times b n → row ≡ get_or table n [] →
+      from ≡ get_or times n 0 → raised (get_or row b None) from time ≡ latest table times b (n + 1)
   unfolding latest
-  latest_more n time e = rw (add-one n, e)
+  latest_more n time from row e f g = rw (add-one n, e, f, g)
 
 -- the time of an input after so many passes
 abbrev pub time_after : Table → ℕ → ℕ → ℕ
@@ -138,6 +138,11 @@ module _ (table : Table) where
       let low = after_bounded lim k b h in
       after_least k b (suc k * 65535) h (omega arith)
       (λ a s g e. let low = after_bounded lim k a g in let m = lim a b s g h e in omega (arith, ints))
+
+  -- no pass
+  pub after_none : replicate 16 0 ≡ times_after table 0
+  unfolding times_after
+  after_none = refl
 
   -- one pass more
   pub after_more :

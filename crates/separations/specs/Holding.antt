@@ -5,4 +5,4 @@ use Rattle.separations.specs.declared.table.Separations.{Separations}
 
 -- the separations that are held, by rising first input, then by rising second input
 abbrev pub held_by : Separations → List Separation
-held_by x = held x.spacing
+held_by x = held x.spacings.rows

@@ -62,10 +62,6 @@ Table = List (List (Option ℤ))
 abbrev pub spacing_at : Table → ℕ → ℕ → Option ℤ
 spacing_at table a b = slice_index_or (slice_index_or table a []) b None
 
--- the same, and none where a number is no input's
-abbrev pub spacing_of : Table → ℕ → ℕ → Option ℤ
-spacing_of table a b = cond (nat_lt 15 a || nat_lt 15 b) None (spacing_at table a b)
-
 -- a spacing, or that of a place where that is larger
 abbrev pub larger_than : Option ℤ → ℤ → ℤ
 larger_than None s = s

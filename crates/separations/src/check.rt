@@ -1,9 +1,16 @@
 // The test for a contradiction: times from 0, raised by passes over the table.
-ghost use Rattle.std.specs.Prelude.{◌≡◌, ◌^◌, ◌<◌, ◌≤◌, ℤ, pos, ◌≤ℤ◌, Some, Decides, slice_index};
-ghost use Rattle.separations.specs.Separations.{spacing_at};
-ghost use Rattle.separations.specs.Check.{raised, Limited, Moderate, latest, passed, times_after};
+ghost use Rattle.std.specs.Prelude.{◌≡◌, ◌^◌, ◌<◌, ◌≤◌, ℤ, pos, ◌≤ℤ◌, Some, Decides};
+ghost use Rattle.separations.specs.Check.{raised, Moderate, latest, passed, times_after};
 
 use crate::table::{INPUTS, Spacings};
+use std::array;
+
+// A time for each input, far below what a sum in 64 bits holds.
+#[derive(Clone, Copy)]
+struct Times {
+    at: [u64; INPUTS],
+    ghost moderate: { Moderate at },
+}
 
 // The time, raised where the spacing after the other time asks it.
 fn raise(spacing: Option<i32>, from: u64, time: u64) -> u64
@@ -12,62 +19,45 @@ fn raise(spacing: Option<i32>, from: u64, time: u64) -> u64
 {
     let Some(s) = spacing else { return time };
     let sum = from as i64 + i64::from(s);
-    if sum > 0 && sum as u64 > time {
-        sum as u64
-    } else {
-        time
+    u64::try_from(sum).map_or(time, |sum| sum.max(time))
+}
+
+impl Spacings {
+    // The time of input b after one pass.
+    fn time_after(&self, times: &Times, b: usize) -> u64
+        requires { b < 16 }
+        ensures { result ≡ latest self.now.rows times.now.at b 16 }
+    {
+        self.rows.iter().zip(&times.at).fold(
+            times.at[b],
+            |time, (row, from)| raise(row[b], *from, time),
+        )
     }
-}
 
-// The time of input b, raised where its spacing after input a asks it.
-fn raise_after(spacing: &Spacings, times: &[u64; INPUTS], a: usize, b: usize, time: u64) -> u64
-    requires { (Limited spacing.now) × ((Moderate times.now) × ((a < 16) × (b < 16))) }
-    ensures { result ≡ raised (spacing_at spacing.now a b) (slice_index times.now a) time }
-{
-    raise(spacing[a][b], times[a], time)
-}
-
-// The time of input b after one pass.
-fn time_after(spacing: &Spacings, times: &[u64; INPUTS], b: usize) -> u64
-    requires { (Limited spacing.now) × ((Moderate times.now) × (b < 16)) }
-    ensures { result ≡ latest spacing.now times.now b 16 }
-{
-    let mut time = times[b];
-    for a in 0..INPUTS {
-        time = raise_after(spacing, times, a, b, time);
+    // The times after one pass.
+    fn pass(&self, times: &Times) -> [u64; INPUTS]
+        ensures { result ≡ passed self.now.rows times.now.at }
+    {
+        array::from_fn(|b| self.time_after(times, b))
     }
-    time
-}
 
-// The times after one pass.
-fn pass(spacing: &Spacings, times: &[u64; INPUTS]) -> [u64; INPUTS]
-    requires { (Limited spacing.now) × (Moderate times.now) }
-    ensures { result ≡ passed spacing.now times.now }
-{
-    let mut next = [0; INPUTS];
-    for b in 0..INPUTS {
-        next[b] = time_after(spacing, times, b);
+    // The times after sixteen passes.
+    #[tactic(auto, using(crate::proofs::Passes::after_none, crate::proofs::Passes::after_more, crate::proofs::Exact::formed_moderate))]
+    fn passes(&self) -> Times
+        ensures { result.at ≡ times_after self.now.rows 16 }
+    {
+        let mut at = [0; INPUTS];
+        for _ in 0..INPUTS {
+            at = self.pass(&Times { at });
+        }
+        Times { at }
     }
-    next
-}
 
-// The times after sixteen passes.
-fn passes(spacing: &Spacings) -> [u64; INPUTS]
-    requires { Limited spacing.now }
-    ensures { result ≡ times_after spacing.now 16 }
-{
-    let mut times = [0; INPUTS];
-    for _done in 0..INPUTS {
-        times = pass(spacing, &times);
+    // Whether a seventeenth pass would raise no time.
+    pub(crate) fn is_settled(&self) -> bool
+        ensures { Decides result (times_after self.now.rows 17 ≡ times_after self.now.rows 16) }
+    {
+        let times = self.passes();
+        self.pass(&times) == times.at
     }
-    times
-}
-
-// Whether a seventeenth pass would raise no time.
-pub(crate) fn is_settled(spacing: &Spacings) -> bool
-    requires { Limited spacing.now }
-    ensures { Decides result (times_after spacing.now 17 ≡ times_after spacing.now 16) }
-{
-    let times = passes(spacing);
-    pass(spacing, &times) == times
 }

@@ -7,4 +7,4 @@ pub mod fault;
 pub mod table;
 
 pub use fault::SeparationFault;
-pub use table::Separations;
+pub use table::{Iter, Separations};

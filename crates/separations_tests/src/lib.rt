@@ -7,10 +7,7 @@ mod tests {
 
     // 0 for an acceptance, else the number of the refusal.
     fn number(answer: Result<(), SeparationFault>) -> u8 {
-        match answer {
-            Ok(()) => 0,
-            Err(fault) => fault.refusal().number,
-        }
+        answer.err().map_or(0, |fault| fault.refusal().number)
     }
 
     #[test]
@@ -50,5 +47,25 @@ mod tests {
         assert_eq!(rt; number(held.hold(1, 0, -65_535)), 0);
         assert_eq!(rt; number(held.hold(1, 0, -65_534)), 14);
         assert_eq!(rt; held.get(1, 0), Some(-65_535));
+    }
+
+    #[test]
+    fn held_come_in_order(rt: HostRuntime) {
+        let mut held = Separations::new();
+        assert_eq!(rt; number(held.hold(15, 14, -7)), 0);
+        assert_eq!(rt; number(held.hold(2, 7, 40)), 0);
+        assert_eq!(rt; number(held.hold(0, 15, -3)), 0);
+        assert_eq!(rt; number(held.hold(2, 1, 9)), 0);
+        let mut given = held.iter();
+        assert_eq!(rt; given.next(), Some((0, 15, -3)));
+        assert_eq!(rt; given.next(), Some((2, 1, 9)));
+        assert_eq!(rt; given.next(), Some((2, 7, 40)));
+        assert_eq!(rt; given.next(), Some((15, 14, -7)));
+        assert_eq!(rt; given.next(), None);
+        let mut total = 0i64;
+        for (_, _, s) in held.iter() {
+            total = total.wrapping_add(i64::from(s));
+        }
+        assert_eq!(rt; total, 39);
     }
 }
