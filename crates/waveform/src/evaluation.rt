@@ -17,8 +17,7 @@ fn unit<V: SwitchingAlgebra>(function: Function) -> V
     }
 }
 
-// One more pin. The function is matched at each pin: an operation chosen before the fold would be a closure of another type for
-// each, with a fold for each.
+// One more pin.
 fn fold_in<V: SwitchingAlgebra>(function: Function, value: V, pin: V) -> V
     ensures { result ≡ joined V.ops function value pin }
 {
@@ -45,6 +44,9 @@ pub fn evaluate<V: SwitchingAlgebra>(function: Function, pins: &[V]) -> V
     ensures fold { result ≡ evaluated V.ops function pins.now }
     ensures contains { Contains V.stands (described function).truth pins.now result }
 {
-    let value = pins.iter().fold(unit(function), |value, pin| fold_in(function, value, *pin));
+    let mut value = unit(function);
+    for pin in pins {
+        value = fold_in(function, value, *pin);
+    }
     finish(function, value)
 }
