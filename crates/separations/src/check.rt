@@ -18,7 +18,7 @@ fn raise(spacing: Option<i32>, from: u64, time: u64) -> u64
     ensures { result ≡ raised spacing from time }
 {
     let Some(s) = spacing else { return time };
-    let sum = from as i64 + i64::from(s);
+    let sum = from.cast_signed() + i64::from(s);
     u64::try_from(sum).map_or(time, |sum| sum.max(time))
 }
 

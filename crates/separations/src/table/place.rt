@@ -1,6 +1,6 @@
 // Well-formed separations, and the table with one more.
 ghost use Rattle.std.specs.Prelude.{◌≡◌, ◌<◌, ◌≤◌, true, replicate, None, List, MatchResult};
-ghost use Rattle.separations.specs.Separations.{Separation as Held, separation, larger_than, placed};
+ghost use Rattle.separations.specs.Separations.{Separation as Held, placed};
 ghost use Rattle.separations.specs.Answer.{Refused};
 ghost use Rattle.separations.specs.declared.fault.SeparationFault.TheVariants as fault;
 
