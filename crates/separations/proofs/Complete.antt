@@ -1,9 +1,9 @@
 -- The test is exact: where some times meet the table, sixteen passes reach times that no further pass raises. Assumes nothing.
-use Rattle.std.proofs.Common.{◌≡◌, ℕ, zero, suc, ◌-◌, ◌<◌, ◌≤◌, true, false, cond, eqb, ◌⊎◌, get_or, sym, ap, ◌∙◌, inl, inr, ⊎_elim, arith}
+use Rattle.std.proofs.Common.{◌≡◌, ℕ, zero, suc, ◌-◌, ◌<◌, ◌≤◌, cond, eqb, ◌⊎◌, get_or, sym, ap, ◌∙◌, inl, inr, ⊎_elim, arith}
 use Rattle.std.proofs.lemmas.List.{ext_get_or}
 use Rattle.std.proofs.lemmas.Int.{ints}
 use Rattle.std.proofs.lemmas.Bool.{cases_lt}
-use Rattle.std.proofs.lemmas.Bool.Decides.{eqb_tells}
+use Rattle.std.proofs.lemmas.Bool.Decides.{nat_tests}
 use Rattle.separations.specs.Separations.{Table}
 use Rattle.separations.specs.Check.{times_after}
 use Rattle.separations.proofs.Passes.{time_after, Solves, after_keeps, after_meets, after_below, length_after}
@@ -20,11 +20,7 @@ lower x y = cond (eqb x y) y (y - 1)
 lower_is :
     (x y : ℕ) →
     ((x ≡ y) × (mark x y ≡ 1) × (lower x y ≡ y)) ⊎ ((x ≡ y → ⊥) × (mark x y ≡ 0) × (lower x y ≡ y - 1))
-lower_is x y =
-    ⊎_elim
-    (λ (p : (eqb x y ≡ true) × (x ≡ y)). inl (p.1, rw p.0, rw p.0))
-    (λ (p : (eqb x y ≡ false) × (x ≡ y → ⊥)). inr (p.1, rw p.0, rw p.0))
-    (eqb_tells x y)
+lower_is x y = grind (arith, nat_tests)
 
 module _ (table : Table) where
   -- how many inputs have reached their time of a solution after k passes

@@ -1,6 +1,5 @@
 -- Lemmas on lists of separations and on the list that a table holds. Assumes nothing.
 use Rattle.std.proofs.Common.{◌≡◌, ℕ, zero, suc, ◌+◌, ◌<◌, Bool, true, false, cond, ◌⊎◌, List, [], ◌∷◌, length, get_or, set, ℤ, ◌≤ℤ◌, Some, None, Option, sym, refl, ap, ◌∙◌, subst, inl, inr, ⊎_elim, arith}
-use lib.Signed.{lt_z}
 use Rattle.std.proofs.lemmas.Int.{ints}
 use Rattle.std.proofs.lemmas.Bool.Decides.{nat_tests}
 use Rattle.std.specs.List.{AllByRecursion}
@@ -139,7 +138,7 @@ table_put a (suc i) c b s (row ∷ rows) p l m =
     row_skip a 0 c b s row (held_from (a + 1) rows) (omega arith)
 
 larger_is : (x y : ℤ) → (larger x y ≡ x) ⊎ (larger x y ≡ y)
-larger_is x y = elim (lt_z x y) as (λ t. (cond t y x ≡ x) ⊎ (cond t y x ≡ y)) [ true ↦ inr refl | false ↦ inl refl ]
+larger_is x y = grind (arith, ints)
 
 larger_both : (x y : ℤ) → (x ≤ℤ larger x y) × (y ≤ℤ larger x y)
 larger_both x y = grind (arith, ints)

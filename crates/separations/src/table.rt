@@ -33,7 +33,8 @@ pub(crate) struct Spacings {
     ghost formed: { list_all is_formed (held rows) ≡ true },
 }
 
-// Separations that are together free of contradiction: a pass after the sixteenth raises no time.
+// Separations that are together free of contradiction: a pass after the sixteenth raises no time. It has no `Model`: a
+// refusal leaves the whole table as it was, and of the list alone a clause would say less.
 #[derive(Clone, Copy)]
 pub struct Separations {
     spacings: Spacings,
