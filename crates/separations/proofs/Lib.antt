@@ -1,4 +1,5 @@
 -- The lemmas of this crate, by subject.
+pub mod Arrays
 pub mod Passes
 pub mod Sums
 pub mod Complete

@@ -9,12 +9,11 @@ use Rattle.settling_theory.proofs.RestHolds.{values_at}
 
 module _ (inputs : ℕ → Three) (c : PlainCircuit) (values : List Three) where
   -- the value of net n is written over values of which those below n are worked out
-  pub values_more : (n : ℕ) (v : Three) → n < length values → v ≡ value_for inputs c (take (n - 0) values) n → take n values ≡ values_to inputs c n
+  pub values_more : (n : ℕ) (v : Three) → n < length values → v ≡ value_for inputs c (take n values) n → take n values ≡ values_to inputs c n
       → take (n + 1) (set values n v) ≡ values_to inputs c (n + 1)
   values_more n v l e h =
-      let same : n - 0 ≡ n = omega arith in
       take_more_set values n v l
-      ∙ (ap (λ (x : Three). take n values ++ x ∷ []) (e ∙ ap (λ (m : ℕ). value_for inputs c (take m values) n) same)
+      ∙ (ap (λ (x : Three). take n values ++ x ∷ []) e
       ∙ (ap (λ (xs : List Three). xs ++ value_for inputs c xs n ∷ []) h ∙ ap (values_to inputs c) (sym (add-one n))))
 
   -- what is worked out up to net n is its value among all

@@ -2,10 +2,12 @@
 #![tactic(auto)]
 
 mod bounds;
+mod gate_at;
 mod gate_classes;
+mod held_gate;
 mod holding;
 mod letter;
-mod pins;
+mod pin;
 pub mod resting;
 mod rows;
 pub mod settling;
