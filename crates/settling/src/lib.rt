@@ -2,6 +2,7 @@
 #![tactic(auto)]
 
 mod bounds;
+pub mod fault;
 mod gate_at;
 mod gate_classes;
 mod held_gate;
@@ -13,6 +14,7 @@ mod rows;
 pub mod settling;
 pub mod tables;
 
+pub use fault::NoSuchInput;
 pub use resting::rest;
 pub use settling::settle;
 pub use tables::Tables;

@@ -19,6 +19,9 @@ use runs::gate_of;
 use runs::row::{INPUTS, PINS};
 use std::array;
 
+// the most nets that a circuit has
+const NETS: usize = 256;
+
 // The value of the net at each pin; past the pins, unknown.
 fn pin_values(at: &GateAt<'_, Three>) -> [Three; PINS]
     ensures { take (length (plain_gate at.now.gate.now).pins) result ≡ map (value_at at.now.below.now) (plain_gate at.now.gate.now).pins }
@@ -65,23 +68,28 @@ fn value_of(circuit: &Circuit, classes: &[Class; INPUTS], letter: Letter, net: N
     requires { net < net_count (plain circuit.now) }
     ensures { result ≡ value_at (values_to (input_letter letter classes.now) (plain circuit.now) (net_count (plain circuit.now))) net }
 {
-    let mut values = [Three::Unknown; 256];
-    for n in 0..net as usize + 1 {
+    // each value is worked out from those before it, so the array is filled in rising order
+    let mut values = [Three::Unknown; NETS];
+    let last = usize::from(net);
+    for n in 0..last + 1 {
         values[n] = value_for(circuit, classes, letter, &values[..n], n as Net);
     }
-    values[net as usize]
+    values[last]
 }
 
 // The start value and the end value of a net, or none for a number that is no net.
 fn values_of(tables: &Tables, net: Net) -> Option<(Three, Three)>
     ensures { result ≡ rest_of (circuit_of tables.now) (classes_of tables.now) net }
 {
-    if net as usize >= tables.circuit.nets() {
-        return None;
-    }
-    let start = value_of(&tables.circuit, &tables.classes, Letter::Start, net);
-    let end = value_of(&tables.circuit, &tables.classes, Letter::End, net);
-    Some((start, end))
+    let Tables {
+        circuit,
+        classes,
+        ..
+    } = tables;
+    (usize::from(net) < circuit.nets()).then(|| {
+        let start = value_of(circuit, classes, Letter::Start, net);
+        (start, value_of(circuit, classes, Letter::End, net))
+    })
 }
 
 // The start value and the end value of a net, or none for a number that is no net. The net starts and ends so in every run

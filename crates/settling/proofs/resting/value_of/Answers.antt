@@ -1,7 +1,9 @@
 -- Each turn works out the value of one more net.
-use Rattle.std.proofs.Common.{◌∙◌, arith, length-set}
+use Rattle.std.proofs.Common.{ap, ◌∙◌, arith, length-set}
 use Rattle.std.proofs.lemmas.List.{length-take-le}
 use Rattle.netlist.specs.View.{plain}
+use Rattle.netlist.specs.Circuit.{net_count}
+use Rattle.settling_theory.specs.Rest.{value_at, values_to}
 use Rattle.settling.specs.Resting.{input_letter}
 use Rattle.settling.proofs.Values.{value_there, values_more}
 use Rattle.settling.proofs.resting.value_of.Goals as goal
@@ -18,5 +20,8 @@ loop-n-preserved c = (
 
 pub returns : goal.returns
 returns c =
-    value_there (input_letter c.args.letter c.args.classes.now) (plain c.args.circuit.now) c.loop-n.values c.args.net c.loop-n.n _ _
-    (omega arith) (omega (arith, c.loop-n.invariant.0, c.ranges.net)) c.requires c.loop-n.invariant.1
+    let inputs = input_letter c.args.letter c.args.classes.now in
+    let circuit = plain c.args.circuit.now in
+    value_there inputs circuit c.loop-n.values c.from-last.result c.loop-n.n (net_count circuit) _
+    (omega arith) (omega (arith, c.loop-n.invariant.0, c.from-last.ensures, c.ranges.net)) (omega (arith, c.from-last.ensures, c.requires)) c.loop-n.invariant.1
+    ∙ ap (value_at (values_to inputs circuit (net_count circuit))) c.from-last.ensures
