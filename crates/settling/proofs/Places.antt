@@ -19,6 +19,7 @@ use Rattle.separations.proofs.Arrays.{from_fn_list}
 use Rattle.runs.specs.declared.row.Bounds.{Bounds}
 use Rattle.runs.specs.Gathered.{gathered, joined}
 use Rattle.settling_theory.specs.Settled.{listed, some_other}
+use Rattle.settling_theory.proofs.Prefix.{listed_alike}
 
 -- one more number, written at the end
 range_more : (a b n : ℕ) → a + n ≡ b → range_with_len a (suc n) ≡ range_with_len a n ++ b ∷ []
@@ -48,11 +49,6 @@ gathered_fold from (suc n) =
     ap (fold step None) (range_more 0 n n (omega arith))
     ∙ (fold-append step None (range_with_len 0 n) (n ∷ []) ∙ ap (λ (all : Option Bounds). joined all (from n)) (gathered_fold from n))
 
--- the values at the first places do not rest on the function past them
-listed_same : {X : Type 0} (f h : ℕ → X) (m : ℕ) → ((k : ℕ) → k < m → f k ≡ h k) → listed f m ≡ listed h m
-listed_same f h zero e = refl
-listed_same f h (suc m) e = ap (λ (xs : List _). xs ++ f m ∷ []) (listed_same f h m (λ k l. e k (omega arith))) ∙ ap (λ (x : _). listed h m ++ x ∷ []) (e m (omega arith))
-
 -- the front of an array made by a closure that gives f at the first m places and d past them
 pub listed_front : {F B : Type 0} (g : Mut F (ℕ × Unit {0}) B) (f : ℕ → B) (d : B) (c : F) (ys : List B) (m n : ℕ) → m ≤ n
     → ((i : ℕ) (y : B) (q : F) → i < n → Called g c (i, tt) y q → (q ≡ c) × (y ≡ cond (ltb i m) (f i) d)) → IsFromFnResult g c ys n
@@ -60,7 +56,7 @@ pub listed_front : {F B : Type 0} (g : Mut F (ℕ × Unit {0}) B) (f : ℕ → B
 listed_front g f d c ys m n l pure made =
     let h : ℕ → _ = λ i. cond (ltb i m) (f i) d in
     ap (take m) (from_fn_list g h c ys n pure made) ∙ (take-map-range_with_len h 0 n m l ∙ (listed_map h m
-    ∙ listed_same h f m (λ k b. cond-true (ltb k m) (f k) d (lt-ltb k m b))))
+    ∙ listed_alike h f m (λ k b. cond-true (ltb k m) (f k) d (lt-ltb k m b))))
 
 module _ {F : Type 0} {g : Mut F (ℕ × Unit {0}) Bool} {s u : Range ℕ} {f : F} {r : Bool} (passes : ℕ → Bool) (p n : ℕ) where
   -- what `(0..n).any(..)` answers, where the closure tests a place other than p

@@ -15,7 +15,7 @@ use runs::Row;
 use runs::row::PINS;
 use std::array;
 
-// The value that a letter fixes, if it is 0 or 1.
+// The value that a letter fixes, if it is 0 or 1. No `From`: neither type is of this crate.
 fn fixed_by(letter: Three) -> Option<bool>
     ensures { result ≡ fixed_by letter }
 {
@@ -36,7 +36,7 @@ fn is_value(letter: Three, value: bool) -> bool
 impl<S: OrderSource> Pin<'_, S> {
     // Whether place q is another one and may hold this pin at the letter: for the start, q ends at control and is before the pin; for
     // the end, q starts at control and the pin is before it.
-    fn is_held_from(&self, hold: Hold, q: usize) -> bool
+    fn is_holder(&self, hold: Hold, q: usize) -> bool
         requires { q < length (plain_gate self.now.at.now.gate.now).pins }
         ensures { result ≡ (not (q == self.now.place) && may_hold (asked S.OrderSource self.now.source.now self.now.circuit.now) self.now.at.now.below.now (plain_gate self.now.at.now.gate.now) hold self.now.place q) }
     {
@@ -59,7 +59,7 @@ impl<S: OrderSource> Pin<'_, S> {
     fn has_holder(&self, hold: Hold) -> bool
         ensures { result ≡ some_other (may_hold (asked S.OrderSource self.now.source.now self.now.circuit.now) self.now.at.now.below.now (plain_gate self.now.at.now.gate.now) hold self.now.place) self.now.place (length (plain_gate self.now.at.now.gate.now).pins) }
     {
-        (0..self.at.pins()).any(|q| self.is_held_from(hold, q))
+        (0..self.at.pins()).any(|q| self.is_holder(hold, q))
     }
 
     // The value at which this pin is held at the letter: what its own letter fixes, if another place may hold it.
@@ -82,7 +82,7 @@ impl<S: OrderSource> Pin<'_, S> {
             letter: Letter::End,
             control,
         };
-        // no `or_else`: the check learns nothing of what its closure gives here, where `S` is a parameter
+        // no `or_else`: the check is told nothing of what its closure gives in a generic function
         match self.held_at(start) {
             None => self.held_at(end),
             held => held,

@@ -22,7 +22,8 @@ use std::array;
 // the most nets that a circuit has
 const NETS: usize = 256;
 
-// The value of the net at each pin; past the pins, unknown.
+// The value of the net at each pin; past the pins, unknown. Classes have `pin_classes`, which differs in what it asks of each place:
+// one function for both would take that as a closure, and be no shorter.
 fn pin_values(at: &GateAt<'_, Three>) -> [Three; PINS]
     ensures { take (length (plain_gate at.now.gate.now).pins) result ≡ map (value_at at.now.below.now) (plain_gate at.now.gate.now).pins }
 {

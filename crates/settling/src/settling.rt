@@ -37,7 +37,7 @@ fn row_for<S: OrderSource>(tables: &Tables, source: &S, n: Net) -> Row
     }
 }
 
-// Writes the row of net n.
+// Writes the row of net n. That the rows below are small holds only as `settle` goes up, so no type of the tables has it.
 fn settle_net<S: OrderSource>(tables: &mut Tables, source: &S, n: Net)
     requires { (n < net_count (circuit_of tables.old)) × (Small (take n (rows_of tables.old))) }
     ensures rows { rows_of tables.new ≡ slice_set (rows_of tables.old) n (row_for (asked S.OrderSource source.now tables.old.circuit) (circuit_of tables.old) (classes_of tables.old) (take n (rows_of tables.old)) n) }
@@ -58,6 +58,7 @@ pub fn settle<S: OrderSource>(tables: &mut Tables, source: &S)
     ensures letters { LettersAreRest (circuit_of tables.old) (classes_of tables.old) (rows_of tables.new) }
     ensures fit { BoundsFit (circuit_of tables.old) (rows_of tables.new) }
 {
+    // a row is worked out from the rows below it, so no iterator over the rows can write them
     for n in 0..tables.rows.len() {
         settle_net(tables, source, n as Net);
     }
