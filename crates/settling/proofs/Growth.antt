@@ -1,5 +1,5 @@
 -- Bounds grow by at most 65,535 ticks from net to net. Assumes nothing.
-use Rattle.std.proofs.Common.{◌≡◌, ℕ, ◌*◌, ◌<◌, ◌≤◌, Bool, T, List, length, Some, None, Option, sym, refl, subst, arith}
+use Rattle.std.proofs.Common.{◌≡◌, ℕ, ◌*◌, ◌<◌, ◌≤◌, Bool, T, List, length, Some, None, Option, sym, subst, arith}
 use Rattle.classes.specs.declared.class.Class.{Class}
 use Rattle.netlist.specs.Circuit.{PlainCircuit, PlainGate, net_count, valid_circuit, valid_gate}
 use Rattle.runs.specs.declared.row.Bounds.{Bounds}

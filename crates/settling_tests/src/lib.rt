@@ -56,10 +56,7 @@ mod tests {
         assert!(rt; net < rows.len());
         let row = rows[net];
         assert_eq!(rt; row.class.letters(), letters);
-        let told = match row.bounds[0] {
-            Some(b) => Some((b.lo, b.hi)),
-            None => None,
-        };
+        let told = row.bounds[0].map(|b| (b.lo, b.hi));
         assert_eq!(rt; told, bounds);
         assert_eq!(rt; row.held[0], held[0]);
         assert_eq!(rt; row.held[1], held[1]);

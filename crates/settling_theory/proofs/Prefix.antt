@@ -1,6 +1,6 @@
 -- Lists by their places, and the rows of the first nets: how many there are, and which row stands where. Assumes nothing.
-use Rattle.std.proofs.Common.{◌≡◌, ℕ, zero, suc, ◌+◌, ◌<◌, ◌≤◌, ltb, List, [], ◌∷◌, ◌++◌, length, get_or, take, sym, refl, ap, ◌∙◌, inl, inr, arith}
-use Rattle.std.proofs.lemmas.List.{length_push, get_or_append_left, get_or_push, get_or_past, get_or-take, length-take-le, same_lists}
+use Rattle.std.proofs.Common.{◌≡◌, ℕ, zero, suc, ◌+◌, ◌<◌, ◌≤◌, ltb, List, [], ◌∷◌, ◌++◌, length, get_or, take, set, sym, refl, ap, ◌∙◌, inl, inr, add-one, arith}
+use Rattle.std.proofs.lemmas.List.{length_push, get_or_append_left, get_or_push, get_or_past, get_or-take, length-take-le, same_lists, take_more_set}
 use Rattle.std.proofs.lemmas.Bool.{cases_lt, lt-ltb, le-ltb, cond-true, cond-false}
 use Rattle.classes.specs.declared.class.Class.{Class}
 use Rattle.classes.specs.declared.class.Class.TheVariants.{C000}
@@ -26,6 +26,12 @@ module _ {X : Type 0} (next : List X → ℕ → X) (first : ℕ → List X) (no
     | inl b ↦ get_or_append_left (first n) (next (first n) n ∷ []) d k (omega (arith, grown_length n)) ∙ grown_at n k d b
     | inr b ↦ get_or_push (first n) (next (first n) n) d k (omega (arith, grown_length n)) ∙ ap (λ (m : ℕ). next (first m) m) (omega arith)
   ]
+
+  -- a list of which the items before a place are these, with the next one written there
+  pub grown_more : (xs : List X) (n : ℕ) (x : X) → n < length xs → x ≡ next (take n xs) n → take n xs ≡ first n → take (n + 1) (set xs n x) ≡ first (n + 1)
+  grown_more xs n x l e h =
+      take_more_set xs n x l ∙ ap (λ (y : X). take n xs ++ y ∷ []) e ∙ ap (λ (ys : List X). ys ++ next ys n ∷ []) h ∙ sym (more n)
+      ∙ ap first (sym (add-one n))
 
 -- as many values as places
 pub listed_length : {X : Type 0} (f : ℕ → X) (n : ℕ) → length (listed f n) ≡ n

@@ -1,5 +1,5 @@
 -- The bounds of a lower net leave room for one more delay.
-use Rattle.std.proofs.Common.{◌*◌, get_or, None, sym, ap, ◌∙◌, subst, arith}
+use Rattle.std.proofs.Common.{◌*◌, get_or, None, sym, ap, ◌∙◌, subst}
 use Rattle.netlist.specs.Plain.{plain_gate}
 use Rattle.runs.specs.declared.row.Row.{Row}
 use Rattle.runs.specs.Gathered.{unless_held}
