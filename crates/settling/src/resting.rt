@@ -1,10 +1,9 @@
 // Rest: the start value and the end value of a net, worked out without settling.
-ghost use Rattle.std.specs.Prelude.{◌≡◌, ◌<◌, T, map, length, take, vec_len};
-ghost use Rattle.netlist.specs.Circuit.{net_count, valid_gate};
+ghost use Rattle.std.specs.Prelude.{◌≡◌, ◌<◌, map, length, take};
+ghost use Rattle.netlist.specs.Circuit.{net_count};
 ghost use Rattle.netlist.specs.Plain.{plain_gate};
 ghost use Rattle.netlist.specs.View.{plain};
 ghost use Rattle.settling_theory.specs.Rest.{gate_value, value_at, value_for, values_to};
-ghost use Rattle.settling_theory.specs.Settled.{pin_net};
 ghost use Rattle.settling.specs.Resting.{input_letter, rest_of};
 ghost use Rattle.settling.specs.Tables.{circuit_of, classes_of};
 ghost use Rattle.settling.specs.Told.{RestTrue};

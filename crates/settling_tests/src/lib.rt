@@ -7,7 +7,7 @@ mod tests {
     use netlist::Circuit;
     use ordering::{Chain, OrderSource, Spaced, Stem};
     use runs::Row;
-    use settling::{Tables, rest, settle};
+    use settling::{NoSuchInput, Tables, rest, settle};
     use std::alloc::{AllocError, Global};
     use std::process::Abort;
     use std::test::Fail;
@@ -179,6 +179,9 @@ mod tests {
         assert!(rt; tables.stimulate(1, Class::C000).is_ok());
         settle(&mut tables, &pile());
         expect(&rt, tables.rows(), 2, "000", None, [None, None]);
+        // a number that is no input is refused
+        let refused = tables.stimulate(2, Class::C111);
+        assert_eq!(rt; refused, Err(NoSuchInput { input: 2 }));
         Ok(())
     }
 
