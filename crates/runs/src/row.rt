@@ -1,4 +1,7 @@
 // A row: the class of a net, its bounds from each input, and its held pins.
+ghost use Rattle.std.specs.Prelude.{◌≡◌, Some};
+ghost use Rattle.runs.specs.Gathered.{joined};
+
 use classes::Class;
 
 // the most inputs that a circuit has
@@ -8,13 +11,25 @@ pub const INPUTS: usize = 16;
 pub const PINS: usize = 8;
 
 // a flip comes lo to hi ticks after a flip of the input that it comes from
-#[derive(Clone, Copy)]
+#[derive(Clone, Copy, PartialEq, Eq, Debug)]
 pub struct Bounds {
     pub lo: u32,
     pub hi: u32,
 }
 
-#[derive(Clone, Copy)]
+impl Bounds {
+    // The narrowest bounds that contain both.
+    pub fn join(self, other: Bounds) -> Bounds
+        ensures { Some result ≡ joined (Some self) (Some other) }
+    {
+        Bounds {
+            lo: self.lo.min(other.lo),
+            hi: self.hi.max(other.hi),
+        }
+    }
+}
+
+#[derive(Clone, Copy, PartialEq, Eq, Debug)]
 pub struct Row {
     pub class: Class,
     // the bounds from each input, or none

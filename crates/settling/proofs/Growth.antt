@@ -1,5 +1,5 @@
 -- Bounds grow by at most 65,535 ticks from net to net. Assumes nothing.
-use Rattle.std.proofs.Common.{◌≡◌, ℕ, ◌*◌, ◌<◌, ◌≤◌, Bool, T, List, length, Some, None, Option, sym, refl, subst, arith}
+use Rattle.std.proofs.Common.{◌≡◌, ℕ, ◌*◌, ◌<◌, ◌≤◌, Bool, T, List, length, Some, None, Option, sym, subst, arith}
 use Rattle.classes.specs.declared.class.Class.{Class}
 use Rattle.netlist.specs.Circuit.{PlainCircuit, PlainGate, net_count, valid_circuit, valid_gate}
 use Rattle.runs.specs.declared.row.Bounds.{Bounds}
@@ -10,21 +10,12 @@ use Rattle.runs.proofs.Circuits.{counts_good, good_gate}
 use Rattle.settling_theory.specs.Settled.{Asks, pin_net, settled_to}
 use Rattle.settling_theory.proofs.Meaning.{settled_bounds_fit}
 use Rattle.settling_theory.proofs.Prefix.{rows_length}
-use Rattle.settling.specs.Asked.{AtMost, Small}
-
--- a larger limit
-at_most_more : (m n : ℕ) (o : Option Bounds) → m ≤ n → AtMost m o → AtMost n o
-at_most_more m n None l h = tt
-at_most_more m n (Some b) l h = (omega (arith, h.0), omega (arith, h.1))
+use Rattle.ordering.specs.TieTable.{AtMost}
+use Rattle.settling.specs.Asked.{Small}
 
 at_most_unheld : (m : ℕ) (held : Option Bool) (o : Option Bounds) → AtMost m o → AtMost m (unless_held held o)
 at_most_unheld m None o h = h
-at_most_unheld m (Some v) o h = tt
-
--- bounds of which each is small
-at_most_from : (m : ℕ) (o : Option Bounds) → ((b : Bounds) → o ≡ Some b → (b.lo ≤ m) × (b.hi ≤ m)) → AtMost m o
-at_most_from m None h = tt
-at_most_from m (Some b) h = h b refl
+at_most_unheld m (Some v) o h = λ b e. grind arith
 
 -- the bounds at a pin of one of 256 nets leave room for the gate's delay
 pub room : (rows : List Row) (g : PlainGate) → T (valid_gate (length rows) g) → Small rows → (held : Option Bool) (i place : ℕ) → place < length g.pins
@@ -32,7 +23,7 @@ pub room : (rows : List Row) (g : PlainGate) → T (valid_gate (length rows) g) 
 room rows g valid small held i place l =
     let below = (good_gate (length rows) g valid).lower place l in
     at_most_unheld (65535 * 255) held (bounds_from (row_at rows (pin_net g place)) i)
-    (at_most_more (65535 * pin_net g place) (65535 * 255) _ (omega (arith, below, small.few)) (small.each (pin_net g place) below i))
+    (λ b e. let fit = small.each (pin_net g place) below i b e in (omega (arith, fit.0, below, small.few), omega (arith, fit.1, below, small.few)))
 
 -- rows that settling has written so far are small
 pub settled_small : (asks : Asks) (c : PlainCircuit) (classes : List Class) → T (valid_circuit c) → (n : ℕ) (rows : List Row) → n ≤ net_count c
@@ -42,7 +33,7 @@ settled_small asks c classes valid n rows l is =
     let size = rows_length asks c classes n in
     subst Small (sym is) (record {
       few = omega (arith, counts.few_inputs, counts.few_gates);
-      each = λ k h i. at_most_from (65535 * k) _ λ b e.
+      each = λ k h i b e.
           let fits = settled_bounds_fit asks c classes valid n k i b (omega arith) (omega arith) e in
           (omega (arith, fits.ordered, fits.summed, counts.some_input), omega (arith, fits.summed, counts.some_input));
     })

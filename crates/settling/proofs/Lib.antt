@@ -1,7 +1,6 @@
 -- The lemmas of this crate, by subject.
 pub mod Places
 pub mod Growth
-pub mod Parts
 pub mod Steps
 pub mod Values
 pub mod Laws

@@ -1,53 +1,72 @@
--- Loops over places: a test of the other places, and a list filled place after place. Assumes nothing.
-use Rattle.std.proofs.Common.{◌≡◌, ℕ, zero, suc, ◌+◌, ◌<◌, ◌≤◌, Bool, true, false, not, ◌&&◌, eqb, List, [], ◌∷◌, ◌++◌, length, take, set, Option, sym, refl, ap, ◌∙◌, ⊎_elim, add-one, arith}
-use Rattle.std.proofs.lemmas.List.{take_all, take_more_set}
-use Rattle.std.proofs.lemmas.Bool.{or_from, or_left, or_right, cases_eq}
+-- Lists and folds over the first places, as the definitions write them. Assumes nothing.
+use Rattle.std.proofs.Common.{◌≡◌, ℕ, zero, suc, ◌+◌, ◌<◌, ◌≤◌, Bool, cond, not, ◌&&◌, ◌||◌, eqb, ltb, List, [], ◌∷◌, ◌++◌, map, take, None, Option, refl, sym, ap, ◌∙◌, add-one, arith}
+use Rattle.std.proofs.Math.Bool.{or-false}
+use Rattle.std.proofs.lemmas.Bool.{cond-true, lt-ltb}
+use Rattle.std.proofs.lemmas.List.Folds.{list_any-append}
+use Rattle.std.proofs.lemmas.List.FromFn.{map-range_with_len_more, take-map-range_with_len}
+use Rattle.std.proofs.lemmas.List.Sums.{fold-append}
+use Rattle.std.specs.List.{fold, list_any, range_with_len}
+use Rattle.std.proofs.iter.Yields.{nat_range_steps}
+use Rattle.std.proofs.lemmas.Iterator.{YieldsList-from_range}
+use Rattle.std.proofs.lemmas.Iterator.Search.{any_from_yields_List}
+use Rattle.std.proofs.lemmas.Iterator.Consumers.{fold_from_yields_List}
+use Rattle.std.specs.Iterator.{ChecksAny, FoldsItems}
+use Rattle.std.specs.declared.ops.Range.{Range}
+use Rattle.std.specs.Array.{IsFromFnResult}
+use Rattle.std.specs.Fn.{Called}
+use denote.Param.Members.{Mut}
+use Rattle.separations.proofs.Arrays.{from_fn_list}
 use Rattle.runs.specs.declared.row.Bounds.{Bounds}
 use Rattle.runs.specs.Gathered.{gathered, joined}
 use Rattle.settling_theory.specs.Settled.{listed, some_other}
+use Rattle.settling_theory.proofs.Prefix.{listed_alike}
 
--- an other place that passes
-found : (passes : ℕ → Bool) (p m q : ℕ) → q < m → (not (eqb q p) && passes q) ≡ true → some_other passes p m ≡ true
-found passes p zero q l h = absurd (omega arith)
-found passes p (suc m) q l h =
-    ⊎_elim
-    (λ e. or_right (some_other passes p m) (not (eqb m p) && passes m) (ap (λ (k : ℕ). not (eqb k p) && passes k) e ∙ h))
-    (λ e. or_left (some_other passes p m) (not (eqb m p) && passes m) (found passes p m q (omega arith) h))
-    (cases_eq m q)
+-- one more number, written at the end
+range_more : (a b n : ℕ) → a + n ≡ b → range_with_len a (suc n) ≡ range_with_len a n ++ b ∷ []
+range_more a b zero e = ap (λ (k : ℕ). k ∷ []) (omega (arith, e))
+range_more a b (suc n) e = ap (λ (ks : List ℕ). a ∷ ks) (range_more (a + 1) b n (omega (arith, e)))
 
--- no place below 0
-pub other_none : (passes : ℕ → Bool) (p : ℕ) → some_other passes p 0 ≡ false
-other_none passes p = refl
+-- the values at the first places, in order
+pub listed_map : {X : Type 0} (f : ℕ → X) (n : ℕ) → map f (range_with_len 0 n) ≡ listed f n
+listed_map f zero = refl
+listed_map f (suc n) =
+    ap (λ (k : ℕ). map f (range_with_len 0 k)) (sym (add-one n))
+    ∙ (map-range_with_len_more f 0 n n (omega arith) ∙ ap (λ (xs : List _). xs ++ f n ∷ []) (listed_map f n))
 
--- none below q, and not q either
-pub other_more : (passes : ℕ → Bool) (p q : ℕ) (r : Bool) → some_other passes p q ≡ false → r ≡ (not (eqb q p) && passes q) → r ≡ false → some_other passes p (q + 1) ≡ false
-other_more passes p q r h e f = ap (some_other passes p) (add-one q) ∙ or_from (some_other passes p q) (not (eqb q p) && passes q) h (sym e ∙ f)
+-- whether any other place passes
+pub other_any : (passes : ℕ → Bool) (p n : ℕ) → list_any (λ q. not (eqb q p) && passes q) (range_with_len 0 n) ≡ some_other passes p n
+other_any passes p zero = refl
+other_any passes p (suc n) =
+    let test : ℕ → Bool = λ q. not (eqb q p) && passes q in
+    ap (list_any test) (range_more 0 n n (omega arith)) ∙ (list_any-append test (range_with_len 0 n) (n ∷ [])
+    ∙ (ap (λ (b : Bool). b || list_any test (n ∷ [])) (other_any passes p n) ∙ ap (λ (b : Bool). some_other passes p n || b) (or-false (test n))))
 
--- the answers of the loop: at a place that passes, and at the end
-pub other_found : (passes : ℕ → Bool) (p n q : ℕ) (r : Bool) → q < n → r ≡ (not (eqb q p) && passes q) → r ≡ true → true ≡ some_other passes p n
-other_found passes p n q r l e f = sym (found passes p n q l (sym e ∙ f))
+-- what the places give, joined one after another
+pub gathered_fold : (from : ℕ → Option Bounds) (n : ℕ) → fold (λ all place. joined all (from place)) None (range_with_len 0 n) ≡ gathered from n
+gathered_fold from zero = refl
+gathered_fold from (suc n) =
+    let step : Option Bounds → ℕ → Option Bounds = λ all place. joined all (from place) in
+    ap (fold step None) (range_more 0 n n (omega arith))
+    ∙ (fold-append step None (range_with_len 0 n) (n ∷ []) ∙ ap (λ (all : Option Bounds). joined all (from n)) (gathered_fold from n))
 
-pub other_all : (passes : ℕ → Bool) (p n q : ℕ) → some_other passes p q ≡ false → n ≤ q → q ≤ n → false ≡ some_other passes p n
-other_all passes p n q h k l = let same : q ≡ n = omega arith in sym h ∙ ap (some_other passes p) same
+-- the front of an array made by a closure that gives f at the first m places and d past them
+pub listed_front : {F B : Type 0} (g : Mut F (ℕ × Unit {0}) B) (f : ℕ → B) (d : B) (c : F) (ys : List B) (m n : ℕ) → m ≤ n
+    → ((i : ℕ) (y : B) (q : F) → i < n → Called g c (i, tt) y q → (q ≡ c) × (y ≡ cond (ltb i m) (f i) d)) → IsFromFnResult g c ys n
+    → take m ys ≡ listed f m
+listed_front g f d c ys m n l pure made =
+    let h : ℕ → _ = λ i. cond (ltb i m) (f i) d in
+    ap (take m) (from_fn_list g h c ys n pure made) ∙ (take-map-range_with_len h 0 n m l ∙ (listed_map h m
+    ∙ listed_alike h f m (λ k b. cond-true (ltb k m) (f k) d (lt-ltb k m b))))
 
-pub ruleset others = (other_none, other_more, other_found, other_all)
+module _ {F : Type 0} {g : Mut F (ℕ × Unit {0}) Bool} {s u : Range ℕ} {f : F} {r : Bool} (passes : ℕ → Bool) (p n : ℕ) where
+  -- what `(0..n).any(..)` answers, where the closure tests a place other than p
+  pub other_by_any : ChecksAny nat_range_steps g s f r u → s ≡ record { start = 0; end = n } →
+      ((k : ℕ) (b : Bool) (q : F) → Called g f (k, tt) b q → (q ≡ f) × (b ≡ (not (eqb k p) && passes k))) → r ≡ some_other passes p n
+  other_by_any ran from calls = any_from_yields_List _ _ _ _ ran (YieldsList-from_range 0 n n from (omega arith)) calls ∙ other_any passes p n
 
--- a list that is filled place after place holds the function's values so far
-pub listed_none : {X : Type 0} (f : ℕ → X) (xs : List X) → take 0 xs ≡ listed f 0
-listed_none f xs = refl
-
-pub listed_more : {X : Type 0} (f : ℕ → X) (xs : List X) (i : ℕ) (x : X) → i < length xs → x ≡ f i → take i xs ≡ listed f i → take (i + 1) (set xs i x) ≡ listed f (i + 1)
-listed_more f xs i x l e h =
-    take_more_set xs i x l ∙ (ap (λ (ys : List _). ys ++ x ∷ []) h ∙ (ap (λ (y : _). listed f i ++ y ∷ []) e ∙ ap (listed f) (sym (add-one i))))
-
-pub listed_all : {X : Type 0} (f : ℕ → X) (xs : List X) (n i : ℕ) → length xs ≡ n → n ≤ i → take i xs ≡ listed f i → i ≤ n → xs ≡ listed f n
-listed_all f xs n i e l h k =
-    let same : i ≡ n = omega arith in let all : length xs ≤ i = omega arith in sym (take_all i xs all) ∙ (h ∙ ap (listed f) same)
-
-pub listed_front : {X : Type 0} (f : ℕ → X) (xs : List X) (n i : ℕ) → n ≡ i → take i xs ≡ listed f i → take n xs ≡ listed f n
-listed_front f xs n i e h = ap (λ (k : ℕ). take k xs) e ∙ (h ∙ ap (listed f) (sym e))
-
--- what the places so far give, and one more
-pub gathered_more : (from : ℕ → Option Bounds) (i : ℕ) (all one both : Option Bounds) → both ≡ joined all one → one ≡ from i → all ≡ gathered from i → both ≡ gathered from (i + 1)
-gathered_more from i all one both e f h =
-    e ∙ (ap (λ (y : Option Bounds). joined all y) f ∙ (ap (λ (x : Option Bounds). joined x (from i)) h ∙ ap (gathered from) (sym (add-one i))))
+module _ {F : Type 0} {g : Mut F (Option Bounds × (ℕ × Unit {0})) (Option Bounds)} {s : Range ℕ} {f : F} {r : Option Bounds} (from : ℕ → Option Bounds) (n : ℕ) where
+  -- what `(0..n).fold(None, ..)` gives, where the closure joins what each place gives
+  pub gathered_by_fold : FoldsItems nat_range_steps g s f None r → s ≡ record { start = 0; end = n } →
+      ((all : Option Bounds) (k : ℕ) (b : Option Bounds) (q : F) → Called g f (all, (k, tt)) b q → (q ≡ f) × (b ≡ joined all (from k))) → r ≡ gathered from n
+  gathered_by_fold ran is calls =
+      fold_from_yields_List g (λ all place. joined all (from place)) None r ran (YieldsList-from_range 0 n n is (omega arith)) calls ∙ gathered_fold from n

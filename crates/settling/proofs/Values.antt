@@ -1,22 +1,13 @@
--- The value of one more net is worked out. Assumes nothing.
-use Rattle.std.proofs.Common.{◌≡◌, ℕ, ◌+◌, ◌-◌, ◌<◌, ◌≤◌, List, [], ◌∷◌, ◌++◌, length, get_or, take, set, sym, ap, ◌∙◌, add-one, arith}
-use Rattle.std.proofs.lemmas.List.{get_or_default, get_or-take, take_more_set}
+-- The value of a net is worked out with those below it. Assumes nothing.
+use Rattle.std.proofs.Common.{◌≡◌, ℕ, ◌<◌, ◌≤◌, List, length, get_or, take, sym, ap, ◌∙◌, arith}
+use Rattle.std.proofs.lemmas.List.{get_or_default, get_or-take}
 use Rattle.classes.specs.declared.three.Three.{Three}
 use Rattle.classes.specs.declared.three.Three.TheVariants.{Unknown}
 use Rattle.netlist.specs.Circuit.{PlainCircuit}
-use Rattle.settling_theory.specs.Rest.{value_at, values_to, value_for}
+use Rattle.settling_theory.specs.Rest.{value_at, values_to}
 use Rattle.settling_theory.proofs.RestHolds.{values_at}
 
 module _ (inputs : ℕ → Three) (c : PlainCircuit) (values : List Three) where
-  -- the value of net n is written over values of which those below n are worked out
-  pub values_more : (n : ℕ) (v : Three) → n < length values → v ≡ value_for inputs c (take (n - 0) values) n → take n values ≡ values_to inputs c n
-      → take (n + 1) (set values n v) ≡ values_to inputs c (n + 1)
-  values_more n v l e h =
-      let same : n - 0 ≡ n = omega arith in
-      take_more_set values n v l
-      ∙ (ap (λ (x : Three). take n values ++ x ∷ []) (e ∙ ap (λ (m : ℕ). value_for inputs c (take m values) n) same)
-      ∙ (ap (λ (xs : List Three). xs ++ value_for inputs c xs n ∷ []) h ∙ ap (values_to inputs c) (sym (add-one n))))
-
   -- what is worked out up to net n is its value among all
   pub value_there : (n i m : ℕ) (d : Three) → n < i → i ≤ length values → n < m → take i values ≡ values_to inputs c i → get_or values n d ≡ value_at (values_to inputs c m) n
   value_there n i m d a l b h =

@@ -3,4 +3,5 @@ pub mod Tables
 pub mod Asked
 pub mod Holding
 pub mod Resting
+pub mod Fault
 pub mod Told

@@ -1,14 +1,13 @@
 // The class of a gate's net: its function on the classes of its pins, a held pin being a constant.
-ghost use Rattle.std.specs.Prelude.{◌≡◌, ◌<◌, T, length, take, vec_len};
-ghost use Rattle.netlist.specs.Circuit.{valid_gate};
+ghost use Rattle.std.specs.Prelude.{◌≡◌, ◌<◌, length, take};
 ghost use Rattle.netlist.specs.Plain.{plain_gate};
 ghost use Rattle.settling_theory.specs.Settled.{class_at, gate_class, pin_class, pin_classes};
 
-use crate::pins::pin_row;
+use crate::held_gate::HeldGate;
 use classes::Class;
 use narrowest::evaluate_classes;
-use netlist::Gate;
-use runs::Row;
+use runs::row::PINS;
+use std::array;
 
 // The class that a pin evaluates as: a constant where it is held, else the class of its net.
 fn pin_class(class: Class, held: Option<bool>) -> Class
@@ -21,31 +20,33 @@ fn pin_class(class: Class, held: Option<bool>) -> Class
     }
 }
 
-// The class that the pin at a place evaluates as.
-fn class_at(rows: &[Row], gate: &Gate, held: &[Option<bool>; 8], place: usize) -> Class
-    requires { (T (valid_gate (length rows.now) (plain_gate gate.now))) × (place < vec_len gate.now.pins) }
-    ensures { result ≡ class_at rows.now (plain_gate gate.now) held.now place }
-{
-    pin_class(pin_row(rows, gate, place).class, held[place])
-}
-
-// The class that each pin evaluates as.
-fn pin_classes(rows: &[Row], gate: &Gate, held: &[Option<bool>; 8]) -> [Class; 8]
-    requires { T (valid_gate (length rows.now) (plain_gate gate.now)) }
-    ensures { take (length (plain_gate gate.now).pins) result ≡ pin_classes rows.now (plain_gate gate.now) held.now }
-{
-    let mut classes = [Class::C000; 8];
-    for place in 0..gate.pins.len() {
-        classes[place] = class_at(rows, gate, held, place);
+impl HeldGate<'_> {
+    // The class that the pin at a place evaluates as.
+    fn class_at(&self, place: usize) -> Class
+        requires { place < length (plain_gate self.now.at.gate.now).pins }
+        ensures { result ≡ class_at self.now.at.below.now (plain_gate self.now.at.gate.now) self.now.held.now place }
+    {
+        pin_class(self.at.known(place).class, self.held[place])
     }
-    classes
-}
 
-// The class of the gate's net.
-pub(crate) fn gate_class(rows: &[Row], gate: &Gate, held: &[Option<bool>; 8]) -> Class
-    requires { T (valid_gate (length rows.now) (plain_gate gate.now)) }
-    ensures { result ≡ gate_class rows.now (plain_gate gate.now) held.now }
-{
-    let classes = pin_classes(rows, gate, held);
-    evaluate_classes(gate.function, &classes[0..gate.pins.len()])
+    // The class that each pin evaluates as; past the pins, constant 0.
+    fn pin_classes(&self) -> [Class; PINS]
+        ensures { take (length (plain_gate self.now.at.gate.now).pins) result ≡ pin_classes self.now.at.below.now (plain_gate self.now.at.gate.now) self.now.held.now }
+    {
+        array::from_fn(|place| {
+            if place < self.at.pins() {
+                self.class_at(place)
+            } else {
+                Class::C000
+            }
+        })
+    }
+
+    // The class of the gate's net.
+    pub(crate) fn class(&self) -> Class
+        ensures { result ≡ gate_class self.now.at.below.now (plain_gate self.now.at.gate.now) self.now.held.now }
+    {
+        let classes = self.pin_classes();
+        evaluate_classes(self.at.gate.function, &classes[..self.at.pins()])
+    }
 }

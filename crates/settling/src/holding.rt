@@ -1,19 +1,21 @@
 // Which pins of a gate are held, and at which value: the questions that are put to the source.
-ghost use Rattle.std.specs.Prelude.{◌≡◌, ◌<◌, not, ◌&&◌, T, length, Some, vec_len, ◌==◌};
-ghost use Rattle.netlist.specs.Circuit.{valid_gate};
+ghost use Rattle.std.specs.Prelude.{◌≡◌, ◌<◌, not, ◌&&◌, length, Some, ◌==◌};
 ghost use Rattle.netlist.specs.Plain.{plain_gate};
 ghost use Rattle.settling_theory.specs.Settled.{fixed_by, held_by, held_pin, held_pins, is_value, some_other};
 ghost use Rattle.settling.specs.Asked.{asked};
 ghost use Rattle.settling.specs.Holding.{held_there, may_hold};
 
+use crate::gate_at::GateAt;
 use crate::letter::{Hold, Letter};
-use crate::pins::{pin_net, pin_row};
+use crate::pin::Pin;
 use classes::Three;
-use netlist::{Circuit, Gate};
+use netlist::Circuit;
 use ordering::OrderSource;
 use runs::Row;
+use runs::row::PINS;
+use std::array;
 
-// The value that a letter fixes, if it is 0 or 1.
+// The value that a letter fixes, if it is 0 or 1. No `From`: neither type is of this crate.
 fn fixed_by(letter: Three) -> Option<bool>
     ensures { result ≡ fixed_by letter }
 {
@@ -28,138 +30,95 @@ fn fixed_by(letter: Three) -> Option<bool>
 fn is_value(letter: Three, value: bool) -> bool
     ensures { result ≡ is_value letter value }
 {
-    match letter {
-        Three::Zero => !value,
-        Three::One => value,
-        Three::Unknown => false,
-    }
+    fixed_by(letter) == Some(value)
 }
 
-// Whether place q is another one than p and may hold it at the letter: for the start, q ends at control and is before p; for the
-// end, q starts at control and p is before it.
-fn is_holder<S: OrderSource>(
-    source: &S,
-    circuit: &Circuit,
-    rows: &[Row],
-    gate: &Gate,
-    hold: Hold,
-    p: usize,
-    q: usize,
-) -> bool
-    requires { (T (valid_gate (length rows.now) (plain_gate gate.now))) × ((p < vec_len gate.now.pins) × (q < vec_len gate.now.pins)) }
-    ensures { result ≡ (not (q == p) && may_hold (asked S.OrderSource source.now circuit.now) rows.now (plain_gate gate.now) hold p q) }
-{
-    let class = pin_row(rows, gate, q).class;
-    q != p
-        && match hold.letter {
-            Letter::Start => {
-                is_value(class.end(), hold.control)
-                    && source.before(circuit, rows, pin_net(gate, q), pin_net(gate, p))
+impl<S: OrderSource> Pin<'_, S> {
+    // Whether place q is another one and may hold this pin at the letter: for the start, q ends at control and is before the pin; for
+    // the end, q starts at control and the pin is before it.
+    fn is_holder(&self, hold: Hold, q: usize) -> bool
+        requires { q < length (plain_gate self.now.at.now.gate.now).pins }
+        ensures { result ≡ (not (q == self.now.place) && may_hold (asked S.OrderSource self.now.source.now self.now.circuit.now) self.now.at.now.below.now (plain_gate self.now.at.now.gate.now) hold self.now.place q) }
+    {
+        let class = self.at.known(q).class;
+        let (pin, other) = (self.at.net(self.place), self.at.net(q));
+        q != self.place
+            && match hold.letter {
+                Letter::Start => {
+                    is_value(class.end(), hold.control)
+                        && self.source.before(self.circuit, self.at.below, other, pin)
+                }
+                Letter::End => {
+                    is_value(class.start(), hold.control)
+                        && self.source.before(self.circuit, self.at.below, pin, other)
+                }
             }
-            Letter::End => {
-                is_value(class.start(), hold.control)
-                    && source.before(circuit, rows, pin_net(gate, p), pin_net(gate, q))
-            }
+    }
+
+    // Whether another place may hold this pin at the letter; the first such place ends the questions.
+    fn has_holder(&self, hold: Hold) -> bool
+        ensures { result ≡ some_other (may_hold (asked S.OrderSource self.now.source.now self.now.circuit.now) self.now.at.now.below.now (plain_gate self.now.at.now.gate.now) hold self.now.place) self.now.place (length (plain_gate self.now.at.now.gate.now).pins) }
+    {
+        (0..self.at.pins()).any(|q| self.is_holder(hold, q))
+    }
+
+    // The value at which this pin is held at the letter: what its own letter fixes, if another place may hold it.
+    fn held_at(&self, hold: Hold) -> Option<bool>
+        ensures { result ≡ held_there (asked S.OrderSource self.now.source.now self.now.circuit.now) self.now.at.now.below.now (plain_gate self.now.at.now.gate.now) hold self.now.place }
+    {
+        let value = fixed_by(hold.letter.of(self.at.known(self.place).class))?;
+        self.has_holder(hold).then_some(value)
+    }
+
+    // The value at which this pin is held, start first, failing that end.
+    fn held_by(&self, control: bool) -> Option<bool>
+        ensures { result ≡ held_by (asked S.OrderSource self.now.source.now self.now.circuit.now) self.now.at.now.below.now (plain_gate self.now.at.now.gate.now) (Some control) self.now.place }
+    {
+        let start = Hold {
+            letter: Letter::Start,
+            control,
+        };
+        let end = Hold {
+            letter: Letter::End,
+            control,
+        };
+        // no `or_else`: the check is told nothing of what its closure gives in a generic function
+        match self.held_at(start) {
+            None => self.held_at(end),
+            held => held,
         }
-}
-
-// Whether another place may hold place p at the letter; the first such place ends the questions.
-fn has_holder<S: OrderSource>(
-    source: &S,
-    circuit: &Circuit,
-    rows: &[Row],
-    gate: &Gate,
-    hold: Hold,
-    p: usize,
-) -> bool
-    requires { (T (valid_gate (length rows.now) (plain_gate gate.now))) × (p < vec_len gate.now.pins) }
-    ensures { result ≡ some_other (may_hold (asked S.OrderSource source.now circuit.now) rows.now (plain_gate gate.now) hold p) p (length (plain_gate gate.now).pins) }
-{
-    for q in 0..gate.pins.len() {
-        if is_holder(source, circuit, rows, gate, hold, p, q) {
-            return true;
-        }
-    }
-    false
-}
-
-// The value at which place p is held at the letter: what its own letter fixes, if another place may hold it.
-fn held_at<S: OrderSource>(
-    source: &S,
-    circuit: &Circuit,
-    rows: &[Row],
-    gate: &Gate,
-    hold: Hold,
-    p: usize,
-) -> Option<bool>
-    requires { (T (valid_gate (length rows.now) (plain_gate gate.now))) × (p < vec_len gate.now.pins) }
-    ensures { result ≡ held_there (asked S.OrderSource source.now circuit.now) rows.now (plain_gate gate.now) hold p }
-{
-    let value = fixed_by(hold.letter.of(pin_row(rows, gate, p).class))?;
-    if has_holder(source, circuit, rows, gate, hold, p) {
-        Some(value)
-    } else {
-        None
     }
 }
 
-// The value at which place p is held, start first, failing that end.
-fn held_by<S: OrderSource>(
-    source: &S,
-    circuit: &Circuit,
-    rows: &[Row],
-    gate: &Gate,
-    control: bool,
-    p: usize,
-) -> Option<bool>
-    requires { (T (valid_gate (length rows.now) (plain_gate gate.now))) × (p < vec_len gate.now.pins) }
-    ensures { result ≡ held_by (asked S.OrderSource source.now circuit.now) rows.now (plain_gate gate.now) (Some control) p }
-{
-    let start = Hold {
-        letter: Letter::Start,
-        control,
-    };
-    let end = Hold {
-        letter: Letter::End,
-        control,
-    };
-    match held_at(source, circuit, rows, gate, start, p) {
-        Some(value) => Some(value),
-        None => held_at(source, circuit, rows, gate, end, p),
-    }
-}
-
-// The value at which place p is held; no pin, or a gate without a control value: none.
+// The value at which a place is held; no pin, or a gate without a control value: none.
 fn held_pin<S: OrderSource>(
     source: &S,
     circuit: &Circuit,
-    rows: &[Row],
-    gate: &Gate,
-    p: usize,
+    at: &GateAt<'_, Row>,
+    place: usize,
 ) -> Option<bool>
-    requires { T (valid_gate (length rows.now) (plain_gate gate.now)) }
-    ensures { result ≡ held_pin (asked S.OrderSource source.now circuit.now) rows.now (plain_gate gate.now) p }
+    ensures { result ≡ held_pin (asked S.OrderSource source.now circuit.now) at.now.below.now (plain_gate at.now.gate.now) place }
 {
-    if p >= gate.pins.len() {
+    if place >= at.pins() {
         return None;
     }
-    let control = gate.function.control()?;
-    held_by(source, circuit, rows, gate, control, p)
+    let control = at.gate.function.control()?;
+    let pin = Pin {
+        source,
+        circuit,
+        at,
+        place,
+    };
+    pin.held_by(control)
 }
 
-// The value at which each of eight places is held.
+// The value at which each place is held.
 pub(crate) fn held_pins<S: OrderSource>(
     source: &S,
     circuit: &Circuit,
-    rows: &[Row],
-    gate: &Gate,
-) -> [Option<bool>; 8]
-    requires { T (valid_gate (length rows.now) (plain_gate gate.now)) }
-    ensures { result ≡ held_pins (asked S.OrderSource source.now circuit.now) rows.now (plain_gate gate.now) }
+    at: &GateAt<'_, Row>,
+) -> [Option<bool>; PINS]
+    ensures { result ≡ held_pins (asked S.OrderSource source.now circuit.now) at.now.below.now (plain_gate at.now.gate.now) }
 {
-    let mut held = [None; 8];
-    for p in 0..8 {
-        held[p] = held_pin(source, circuit, rows, gate, p);
-    }
-    held
+    array::from_fn(|place| held_pin(source, circuit, at, place))
 }

@@ -1,4 +1,4 @@
-// The two letters of a class that rest and holding are about.
+// The two letters of a class that rest and holding are about. A value and no closure: contracts name which of the two it is.
 ghost use Rattle.std.specs.Prelude.{◌≡◌};
 ghost use Rattle.settling.specs.Resting.{letter_of};
 

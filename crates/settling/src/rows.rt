@@ -1,16 +1,16 @@
 // The row of one net, from the rows of the nets below it.
-ghost use Rattle.std.specs.Prelude.{◌≡◌, ◌<◌, T, length};
-ghost use Rattle.netlist.specs.Circuit.{valid_gate};
+ghost use Rattle.std.specs.Prelude.{◌≡◌, ◌<◌};
 ghost use Rattle.netlist.specs.Plain.{plain_gate};
 ghost use Rattle.settling_theory.specs.Settled.{gate_row, input_row};
 ghost use Rattle.settling.specs.Asked.{Small, asked};
 
-use crate::bounds::gate_bounds;
-use crate::gate_classes::gate_class;
+use crate::gate_at::GateAt;
+use crate::held_gate::HeldGate;
 use crate::holding::held_pins;
 use classes::Class;
-use netlist::{Circuit, Gate};
+use netlist::Circuit;
 use ordering::OrderSource;
+use runs::row::{INPUTS, PINS};
 use runs::{Bounds, Row};
 
 // The row of input n: its stimulus as class and, unless that is constant, bounds 0 to 0 from itself.
@@ -18,14 +18,14 @@ pub(crate) fn row_for_input(class: Class, n: usize) -> Row
     requires { n < 16 }
     ensures { result ≡ input_row class n }
 {
-    let mut bounds = [None; 16];
+    let mut bounds = [None; INPUTS];
     if !class.is_constant() {
         bounds[n] = Some(Bounds { lo: 0, hi: 0 });
     }
     Row {
         class,
         bounds,
-        held: [None; 8],
+        held: [None; PINS],
     }
 }
 
@@ -33,15 +33,15 @@ pub(crate) fn row_for_input(class: Class, n: usize) -> Row
 pub(crate) fn row_for_gate<S: OrderSource>(
     source: &S,
     circuit: &Circuit,
-    rows: &[Row],
-    gate: &Gate,
+    at: GateAt<'_, Row>,
 ) -> Row
-    requires { (T (valid_gate (length rows.now) (plain_gate gate.now))) × (Small rows.now) }
-    ensures { result ≡ gate_row (asked S.OrderSource source.now circuit.now) rows.now (plain_gate gate.now) }
+    requires { Small at.below.now }
+    ensures { result ≡ gate_row (asked S.OrderSource source.now circuit.now) at.entry.below.now (plain_gate at.entry.gate.now) }
 {
-    let held = held_pins(source, circuit, rows, gate);
-    let class = gate_class(rows, gate, &held);
-    let bounds = gate_bounds(rows, gate, &held, class);
+    let held = held_pins(source, circuit, &at);
+    let gate = HeldGate { at, held: &held };
+    let class = gate.class();
+    let bounds = gate.bounds(class);
     Row {
         class,
         bounds,

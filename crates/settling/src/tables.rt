@@ -6,6 +6,7 @@ ghost use Rattle.netlist.specs.View.{plain};
 use classes::Class;
 use netlist::Circuit;
 use runs::Row;
+use runs::row::INPUTS;
 
 mod new;
 mod parts;
@@ -15,7 +16,7 @@ mod stimulate;
 pub struct Tables {
     pub(crate) circuit: Circuit,
     // the stimulus of each input
-    pub(crate) classes: [Class; 16],
+    pub(crate) classes: [Class; INPUTS],
     // what is known of each net
     pub(crate) rows: Vec<Row>,
     ghost sixteen: { length classes ≡ 16 },

@@ -7,7 +7,7 @@ mod tests {
     use netlist::Circuit;
     use ordering::{Chain, OrderSource, Spaced, Stem};
     use runs::Row;
-    use settling::{Tables, rest, settle};
+    use settling::{NoSuchInput, Tables, rest, settle};
     use std::alloc::{AllocError, Global};
     use std::process::Abort;
     use std::test::Fail;
@@ -56,10 +56,7 @@ mod tests {
         assert!(rt; net < rows.len());
         let row = rows[net];
         assert_eq!(rt; row.class.letters(), letters);
-        let told = match row.bounds[0] {
-            Some(b) => Some((b.lo, b.hi)),
-            None => None,
-        };
+        let told = row.bounds[0].map(|b| (b.lo, b.hi));
         assert_eq!(rt; told, bounds);
         assert_eq!(rt; row.held[0], held[0]);
         assert_eq!(rt; row.held[1], held[1]);
@@ -73,8 +70,8 @@ mod tests {
         put_gate(&mut bytes, 0, least, 6, &[0])?;
         put_gate(&mut bytes, 2, 1, 1, &[2, 3])?;
         let mut tables = loaded(heap, bytes.as_slice())?;
-        assert!(rt; tables.stimulate(0, Class::C0R1));
-        assert!(rt; tables.stimulate(1, Class::C000));
+        assert!(rt; tables.stimulate(0, Class::C0R1).is_ok());
+        assert!(rt; tables.stimulate(1, Class::C000).is_ok());
         Ok(tables)
     }
 
@@ -127,7 +124,7 @@ mod tests {
         put_gate(&mut bytes, 0, second, second, &[0])?;
         put_gate(&mut bytes, code, 0, 0, &[1, 2])?;
         let mut tables = loaded(heap, bytes.as_slice())?;
-        assert!(rt; tables.stimulate(0, Class::C1F0));
+        assert!(rt; tables.stimulate(0, Class::C1F0).is_ok());
         settle(&mut tables, &pile());
         Ok(tables)
     }
@@ -162,7 +159,7 @@ mod tests {
         bytes.extend_from_slice(&[2, 0, 1, 0, 1, 1])?;
         put_gate(&mut bytes, 6, 1, 1, &[0, 0])?;
         let mut tables = loaded(rt.alloc(), bytes.as_slice())?;
-        assert!(rt; tables.stimulate(0, Class::C0R1));
+        assert!(rt; tables.stimulate(0, Class::C0R1).is_ok());
         settle(&mut tables, &pile());
         expect(&rt, tables.rows(), 1, "0X0", Some((1, 1)), [None, None]);
         Ok(())
@@ -175,13 +172,16 @@ mod tests {
         bytes.extend_from_slice(&[2, 0, 1, 0, 2, 1])?;
         put_gate(&mut bytes, 2, 3, 4, &[0, 1])?;
         let mut tables = loaded(rt.alloc(), bytes.as_slice())?;
-        assert!(rt; tables.stimulate(0, Class::C0R1));
-        assert!(rt; tables.stimulate(1, Class::C111));
+        assert!(rt; tables.stimulate(0, Class::C0R1).is_ok());
+        assert!(rt; tables.stimulate(1, Class::C111).is_ok());
         settle(&mut tables, &pile());
         expect(&rt, tables.rows(), 2, "0R1", Some((3, 4)), [None, None]);
-        assert!(rt; tables.stimulate(1, Class::C000));
+        assert!(rt; tables.stimulate(1, Class::C000).is_ok());
         settle(&mut tables, &pile());
         expect(&rt, tables.rows(), 2, "000", None, [None, None]);
+        // a number that is no input is refused
+        let refused = tables.stimulate(2, Class::C111);
+        assert_eq!(rt; refused, Err(NoSuchInput { input: 2 }));
         Ok(())
     }
 
@@ -195,7 +195,7 @@ mod tests {
         put_gate(&mut bytes, 1, 5, 5, &[0])?;
         put_gate(&mut bytes, 2, 1, 2, &[2, 3, 1])?;
         let mut tables = loaded(rt.alloc(), bytes.as_slice())?;
-        assert!(rt; tables.stimulate(0, Class::C1F0));
+        assert!(rt; tables.stimulate(0, Class::C1F0).is_ok());
         settle(&mut tables, &pile());
         expect(
             &rt,
@@ -215,8 +215,8 @@ mod tests {
         bytes.extend_from_slice(&[2, 0, 1, 0, 2, 1])?;
         put_gate(&mut bytes, 2, 1, 1, &[0, 1])?;
         let mut tables = loaded(rt.alloc(), bytes.as_slice())?;
-        assert!(rt; tables.stimulate(0, Class::C1F0));
-        assert!(rt; tables.stimulate(1, Class::C1F0));
+        assert!(rt; tables.stimulate(0, Class::C1F0).is_ok());
+        assert!(rt; tables.stimulate(1, Class::C1F0).is_ok());
         let mut source = pile();
         settle(&mut tables, &source);
         expect(&rt, tables.rows(), 2, "1F0", Some((1, 1)), [None, None]);
@@ -243,7 +243,7 @@ mod tests {
             put_gate(&mut bytes, 4, 65_535, 65_535, &[from; 8])?;
         }
         let mut tables = loaded(rt.alloc(), bytes.as_slice())?;
-        assert!(rt; tables.stimulate(0, Class::C0R1));
+        assert!(rt; tables.stimulate(0, Class::C0R1).is_ok());
         settle(&mut tables, &pile());
         expect(
             &rt,

@@ -1,6 +1,7 @@
 -- The held pins of a settled gate are those of the rule. Assumes nothing.
 use Rattle.std.proofs.Common.{◌≡◌, ℕ, zero, suc, ◌<◌, ◌≤◌, Bool, true, false, not, ◌&&◌, eqb, ltb, ◌≢◌, ◌⊎◌, List, length, get_or, Some, None, Option, sym, refl, ap, ◌∙◌, inl, inr, arith}
 use Rattle.std.proofs.lemmas.Bool.{false≢true, and_parts, and_from, or_cases, or_left, or_right, not-true, not_from_false, eqb-false, ne_eqb, cases_eq, cases_lt, lt-ltb, le-ltb, cond-true, cond-false}
+use Rattle.std.proofs.lemmas.Option.{none-some}
 use Rattle.classes.specs.declared.three.Three.{Three}
 use Rattle.classes.specs.declared.three.Three.TheVariants.{Zero, One, Unknown}
 use Rattle.functions.specs.Function.{described}
@@ -40,7 +41,7 @@ fixed_letter Zero true e = absurd (let z : ◌≡◌ {A = ℕ} 0 1 = cc in omega
 fixed_letter Zero false e = refl
 fixed_letter One true e = refl
 fixed_letter One false e = absurd (let z : ◌≡◌ {A = ℕ} 0 1 = cc in omega arith)
-fixed_letter Unknown b e = absurd (let z : ◌≡◌ {A = ℕ} 0 1 = cc in omega arith)
+fixed_letter Unknown b e = absurd (none-some b e)
 
 pub letter_fixed : (b : Bool) → fixed_by (letter b) ≡ Some b
 letter_fixed true = refl
@@ -60,7 +61,7 @@ letter_value false = refl
 -- a value where the test passes
 pub when_some : (t : Bool) (o : Option Bool) (b : Bool) → when t o ≡ Some b → (t ≡ true) × (o ≡ Some b)
 when_some true o b e = (refl, e)
-when_some false o b e = absurd (let z : ◌≡◌ {A = ℕ} 0 1 = cc in omega arith)
+when_some false o b e = absurd (none-some b e)
 
 -- one of two values: the first, or failing that the second
 pub else_some : (x y : Option Bool) (b : Bool) → or_else x y ≡ Some b → (x ≡ Some b) ⊎ ((x ≡ None) × (y ≡ Some b))
@@ -118,11 +119,8 @@ module _ (asks : Asks) (rows : List Row) (g : PlainGate) where
   pub held_rule : (control : Bool) (p : ℕ) (b : Bool) → held_by asks rows g (Some control) p ≡ Some b → HeldRule asks rows g control p b
   held_rule control p b e = elim (else_some (held_at_start asks rows g control p) (held_at_end asks rows g control p) b e) [
     | inl h ↦ inl (start_rule control p b h)
-    | inr h ↦ inr (λ x r. none_some x h.0 (rule_start control p x r), end_rule control p b h.1)
+    | inr h ↦ inr (λ x r. none-some x (sym h.0 ∙ rule_start control p x r), end_rule control p b h.1)
   ]
-    where
-      none_some : (x : Bool) → held_at_start asks rows g control p ≡ None → held_at_start asks rows g control p ≡ Some x → ⊥
-      none_some x n s = let z : ◌≡◌ {A = ℕ} 0 1 = cc in omega arith
 
   pub rule_held : (control : Bool) (p : ℕ) (b : Bool) → HeldRule asks rows g control p b → held_by asks rows g (Some control) p ≡ Some b
   rule_held control p b (inl r) = ap (λ (o : Option Bool). or_else o (held_at_end asks rows g control p)) (rule_start control p b r)
@@ -146,14 +144,11 @@ module _ (asks : Asks) (rows : List Row) (g : PlainGate) where
   pub held_because : length g.pins ≤ 8 → (p : ℕ) (b : Bool) → get_or (held_pins asks rows g) p None ≡ Some b → HeldBecause asks rows g p b
   held_because few p b e = elim (cases_lt p (length g.pins)) [
     | inl l ↦ inside l (described g.function).control refl (sym (held_inside p l few) ∙ e)
-    | inr l ↦ absurd (past (held_past p l))
+    | inr l ↦ absurd (none-some b (sym (held_past p l) ∙ e))
   ]
     where
-      past : get_or (held_pins asks rows g) p None ≡ None → ⊥
-      past h = let z : ◌≡◌ {A = ℕ} 0 1 = cc in omega arith
-
       inside : p < length g.pins → (o : Option Bool) → (described g.function).control ≡ o → held_by asks rows g o p ≡ Some b → HeldBecause asks rows g p b
-      inside l None s h = absurd (let z : ◌≡◌ {A = ℕ} 0 1 = cc in omega arith)
+      inside l None s h = absurd (none-some b h)
       inside l (Some control) s h = record { inside = l; control = control; controls = s; rule = held_rule control p b h }
 
   pub because_held : length g.pins ≤ 8 → (p : ℕ) (b : Bool) → HeldBecause asks rows g p b → get_or (held_pins asks rows g) p None ≡ Some b

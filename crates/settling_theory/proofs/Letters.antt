@@ -1,7 +1,8 @@
 -- The start and end letters of classes under gate evaluation, and what a letter of control among the pins decides. Assumes nothing.
-use Rattle.std.proofs.Common.{◌≡◌, ℕ, zero, suc, ◌<◌, Bool, true, false, T, eqb, List, [], ◌∷◌, ◌++◌, map, length, get_or, Some, None, sym, refl, ap, ◌∙◌, ap₂, inl, inr, arith}
+use Rattle.std.proofs.Common.{◌≡◌, ℕ, zero, suc, ◌<◌, Bool, true, false, T, eqb, List, [], ◌∷◌, ◌++◌, map, length, get_or, Some, sym, refl, ap, ◌∙◌, ap₂, inl, inr, arith}
 use Rattle.std.proofs.lemmas.List.{length-map, get_or-map, map_push, ext_get_or}
 use Rattle.std.proofs.lemmas.Bool.{cases_lt}
+use Rattle.std.proofs.lemmas.Option.{none-some}
 use Rattle.classes.specs.declared.three.Three.{Three}
 use Rattle.classes.specs.declared.three.Three.TheVariants.{Zero, One, Unknown}
 use Rattle.classes.specs.declared.class.Class.{Class}
@@ -142,9 +143,6 @@ and_won f n k l e = fold_won conj_three Zero (λ x. refl) conj_right One f n k l
 or_won : (f : ℕ → Three) (n k : ℕ) → k < n → f k ≡ One → folded_in (disj three_ops) Zero (listed f n) ≡ One
 or_won f n k l e = fold_won (disj three_ops) One (λ x. refl) disj_right Zero f n k l e
 
-none_some : (b : Bool) → None ≡ Some b → ⊥
-none_some b e = let z : ◌≡◌ {A = ℕ} 0 1 = cc in omega arith
-
 same_letters : (a b : Bool) → Some a ≡ Some b → letter b ≡ letter a
 same_letters a b e = cc
 
@@ -163,11 +161,11 @@ both_one cv s x y n i j a p b q = or_won x n i a (p ∙ same_letters true cv s) 
 pub control_decides :
     (f : Function) (cv : Bool) → (function.described f).control ≡ Some cv → (x y : ℕ → Three) (n i j : ℕ) →
     i < n → x i ≡ letter cv → j < n → y j ≡ letter cv → evaluated three_ops f (listed x n) ≡ evaluated three_ops f (listed y n)
-control_decides Buf cv s x y n i j a p b q = absurd (none_some cv s)
-control_decides Not cv s x y n i j a p b q = absurd (none_some cv s)
+control_decides Buf cv s x y n i j a p b q = absurd (none-some cv s)
+control_decides Not cv s x y n i j a p b q = absurd (none-some cv s)
 control_decides And cv s x y n i j a p b q = both_zero cv s x y n i j a p b q
 control_decides Nand cv s x y n i j a p b q = ap three_ops.neg (both_zero cv s x y n i j a p b q)
 control_decides Or cv s x y n i j a p b q = both_one cv s x y n i j a p b q
 control_decides Nor cv s x y n i j a p b q = ap three_ops.neg (both_one cv s x y n i j a p b q)
-control_decides Xor cv s x y n i j a p b q = absurd (none_some cv s)
-control_decides Xnor cv s x y n i j a p b q = absurd (none_some cv s)
+control_decides Xor cv s x y n i j a p b q = absurd (none-some cv s)
+control_decides Xnor cv s x y n i j a p b q = absurd (none-some cv s)

@@ -1,7 +1,6 @@
 -- Rest is true in every run, and a run exists wherever the separations can be met. Assumes nothing.
 use Rattle.std.proofs.Common.{◌≡◌, ℕ, zero, suc, ◌+◌, ◌<◌, Bool, T, ltb, List, [], ◌∷◌, map, length, get_or, sym, refl, ap, ◌∙◌, subst, inl, inr, arith}
 use Rattle.std.proofs.lemmas.Simd.{map-map}
-use Rattle.std.proofs.lemmas.List.{length_push, get_or_append_left, get_or_push}
 use Rattle.std.proofs.lemmas.Bool.{lt-ltb, le-ltb, cond-true, cond-false, cases_lt}
 use Rattle.signals.specs.Waveform.{Waveform, FlipsAt, final, constant}
 use Rattle.signals.specs.GateRule.{firsts, sampled}
@@ -27,6 +26,7 @@ use Rattle.runs.proofs.Runs.{run_for_inputs}
 use Rattle.separations.specs.Separations.{Separation}
 use Rattle.ordering.specs.Source.{MetBy}
 use Rattle.settling_theory.specs.Rest.{value_at, values_to, value_for}
+use Rattle.settling_theory.proofs.Prefix.{grown_at}
 use Rattle.settling_theory.specs.RestTheorems.{Allows, RestHolds, RunExistsWhereMet}
 
 -- constant waveforms at these values
@@ -61,18 +61,9 @@ evaluated_allows f letter value ns h =
       follows = λ t. ap (function.described f).truth (constant_sampled t value ns);
     })).allowed
 
--- there is one value for each of the first nets, worked out from the values below it, however many follow
-values_length : (inputs : ℕ → Three) (c : PlainCircuit) (n : ℕ) → length (values_to inputs c n) ≡ n
-values_length inputs c zero = refl
-values_length inputs c (suc n) = length_push (values_to inputs c n) (value_for inputs c (values_to inputs c n) n) ∙ omega (arith, values_length inputs c n)
-
+-- the value of a net is worked out from the values below it, however many follow
 pub values_at : (inputs : ℕ → Three) (c : PlainCircuit) (n k : ℕ) → k < n → value_at (values_to inputs c n) k ≡ value_for inputs c (values_to inputs c k) k
-values_at inputs c zero k l = absurd (omega arith)
-values_at inputs c (suc n) k l = elim (cases_lt k n) [
-  | inl p ↦ get_or_append_left (values_to inputs c n) (value_for inputs c (values_to inputs c n) n ∷ []) Unknown k (omega (arith, values_length inputs c n)) ∙ values_at inputs c n k p
-  | inr p ↦ get_or_push (values_to inputs c n) (value_for inputs c (values_to inputs c n) n) Unknown k (omega (arith, values_length inputs c n))
-      ∙ ap (λ (m : ℕ). value_for inputs c (values_to inputs c m) m) (omega arith)
-]
+values_at inputs c n k l = grown_at (value_for inputs c) (values_to inputs c) refl (λ n. refl) n k Unknown l
 
 -- the value of an input, and of the net of a gate
 pub value_of_input : (inputs : ℕ → Three) (c : PlainCircuit) (values : List Three) (n : ℕ) → n < c.inputs → value_for inputs c values n ≡ inputs n

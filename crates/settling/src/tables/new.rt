@@ -9,6 +9,7 @@ use crate::tables::Tables;
 use classes::Class;
 use netlist::Circuit;
 use runs::Row;
+use runs::row::{INPUTS, PINS};
 use std::alloc::{AllocError, Global};
 
 impl Tables {
@@ -20,13 +21,13 @@ impl Tables {
     {
         let row = Row {
             class: Class::CXXX,
-            bounds: [None; 16],
-            held: [None; 8],
+            bounds: [None; INPUTS],
+            held: [None; PINS],
         };
         let rows = vec![in heap; row; circuit.nets()]?;
         Ok(Tables {
             circuit,
-            classes: [Class::C000; 16],
+            classes: [Class::C000; INPUTS],
             rows,
         })
     }

@@ -42,10 +42,6 @@ impl Tables {
     pub fn class_of_input(&self, input: Net) -> Option<Class>
         ensures { result ≡ class_of_input (circuit_of self.now) (classes_of self.now) input }
     {
-        if input < self.circuit.inputs() {
-            Some(self.classes[input as usize])
-        } else {
-            None
-        }
+        (input < self.circuit.inputs()).then(|| self.classes[usize::from(input)])
     }
 }

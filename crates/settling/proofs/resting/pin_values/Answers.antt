@@ -1,22 +1,18 @@
--- Each turn fills one more place.
-use Rattle.std.proofs.Common.{◌≡◌, length, sym, ◌∙◌, arith, length-set}
+-- The front of the array lists the values at the pins.
+use Rattle.std.proofs.Common.{length, sym, ◌∙◌, arith, rules, tests}
+use Rattle.classes.specs.declared.three.Three.TheVariants.{Unknown}
 use Rattle.netlist.specs.Plain.{plain_gate}
 use Rattle.runs.proofs.Circuits.{good_gate, pins_few}
 use Rattle.settling_theory.specs.Rest.{value_at}
+use Rattle.settling_theory.specs.Settled.{pin_net}
 use Rattle.settling_theory.proofs.Letters.{map_places}
-use Rattle.settling.proofs.Places.{listed_front, listed_more}
+use Rattle.settling.proofs.Places.{listed_front}
 use Rattle.settling.proofs.resting.pin_values.Goals as goal
-
-pub loop-place-preserved : goal.loop-place-preserved
-loop-place-preserved c =
-    let g = plain_gate c.args.gate.now in
-    let few = pins_few g.function (length g.pins) (good_gate (length c.args.values.now) g c.requires).pin_count in (
-      length-set c.loop-place.pins c.loop-place.place c.pin_value.result ∙ c.loop-place.invariant.0,
-      listed_more _ c.loop-place.pins c.loop-place.place c.pin_value.result (omega (arith, few.1, c.args.gate.now.pins.ok.0)) c.pin_value.ensures c.loop-place.invariant.1,
-    )
 
 pub returns : goal.returns
 returns c =
-    let g = plain_gate c.args.gate.now in
-    let all : length g.pins ≡ c.loop-place.place = omega (arith, c.len-place-end.ensures, c.args.gate.now.pins.ok.0) in
-    listed_front _ c.loop-place.pins (length g.pins) c.loop-place.place all c.loop-place.invariant.1 ∙ sym (map_places (value_at c.args.values.now) g.pins)
+    let at = c.args.at.now in
+    let g = plain_gate at.gate.now in
+    let few = pins_few g.function (length g.pins) (good_gate (length at.below.now) g at.valid).pin_count in
+    listed_front _ (λ k. value_at at.below.now (pin_net g k)) Unknown _ c.from_fn.result (length g.pins) 8 (omega (arith, few.1)) (λ i y q l k. search (rules, tests)) c.from_fn.ensures.items
+    ∙ sym (map_places (value_at at.below.now) g.pins)
