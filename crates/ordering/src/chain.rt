@@ -39,12 +39,7 @@ fn has_middle<S: OrderSource>(source: &S, circuit: &Circuit, rows: &[Row], q: Ne
     if !has_row(circuit, rows, p) {
         return false;
     }
-    for m in 0..row_count(circuit, rows) {
-        if is_through(source, circuit, rows, q, p, m as Net) {
-            return true;
-        }
-    }
-    false
+    (0..row_count(circuit, rows)).any(|m| is_through(source, circuit, rows, q, p, m as Net))
 }
 
 #[derive(Drop)]

@@ -27,12 +27,7 @@ fn is_none_but(i: usize, earlier: &Row, later: &Row, j: usize) -> bool
 fn is_alone(i: usize, earlier: &Row, later: &Row) -> bool
     ensures { result ≡ every_below (none_but i earlier.now later.now) 16 }
 {
-    for j in 0..INPUTS {
-        if !is_none_but(i, earlier, later, j) {
-            return false;
-        }
-    }
-    true
+    (0..INPUTS).all(|j| is_none_but(i, earlier, later, j))
 }
 
 // Whether input i is clean, orders the two rows, and alone gives bounds at them.
@@ -49,12 +44,7 @@ fn is_only_input(circuit: &Circuit, rows: &[Row], earlier: &Row, later: &Row, i:
 fn has_only_input(circuit: &Circuit, rows: &[Row], earlier: &Row, later: &Row) -> bool
     ensures { result ≡ some_below (only_input (plain circuit.now) rows.now earlier.now later.now) 16 }
 {
-    for i in 0..INPUTS {
-        if is_only_input(circuit, rows, earlier, later, i) {
-            return true;
-        }
-    }
-    false
+    (0..INPUTS).any(|i| is_only_input(circuit, rows, earlier, later, i))
 }
 
 #[derive(Clone, Copy)]

@@ -21,12 +21,7 @@ use separations::{SeparationFault, Separations};
 fn is_bounded(row: &Row) -> bool
     ensures { result ≡ some_below (bounded_by row.now) 16 }
 {
-    for i in 0..INPUTS {
-        if row.bounds[i].is_some() {
-            return true;
-        }
-    }
-    false
+    row.bounds.iter().any(Option::is_some)
 }
 
 // Whether there is a spacing that spaces the bounds.
@@ -94,12 +89,7 @@ fn is_agreeing_with_all(
     requires { j < 16 }
     ensures { result ≡ agrees_with_all (held_by held.now) (plain circuit.now) rows.now earlier.now later.now j }
 {
-    for i in 0..INPUTS {
-        if !is_agreeing(held, circuit, rows, earlier, later, j, i) {
-            return false;
-        }
-    }
-    true
+    (0..INPUTS).all(|i| is_agreeing(held, circuit, rows, earlier, later, j, i))
 }
 
 // Whether every number at the earlier row agrees with every number at the later.
@@ -112,12 +102,7 @@ fn are_agreeing(
 ) -> bool
     ensures { result ≡ every_below (agrees_with_all (held_by held.now) (plain circuit.now) rows.now earlier.now later.now) 16 }
 {
-    for j in 0..INPUTS {
-        if !is_agreeing_with_all(held, circuit, rows, earlier, later, j) {
-            return false;
-        }
-    }
-    true
+    (0..INPUTS).all(|j| is_agreeing_with_all(held, circuit, rows, earlier, later, j))
 }
 
 #[derive(Clone, Copy)]

@@ -183,12 +183,7 @@ fn has_stem_up_to(circuit: &Circuit, rows: &[Row], q: Net, p: Net, top: Net) -> 
     requires { (q < row_count (plain circuit.now) rows.now) × (p < row_count (plain circuit.now) rows.now) }
     ensures { result ≡ some_below (tied_apart (plain circuit.now) rows.now q p) (top + 1) }
 {
-    for s in 0..top as usize + 1 {
-        if is_stem(circuit, rows, q, p, s as Net) {
-            return true;
-        }
-    }
-    false
+    (0..=top).any(|s| is_stem(circuit, rows, q, p, s))
 }
 
 // Whether some clean net that has a row ties q and p apart. It lies above neither of them, since ties only lead upward.
