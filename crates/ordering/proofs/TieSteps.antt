@@ -238,13 +238,6 @@ pins_small rows ts row (m ∷ ms) n small low b e =
     (λ place l x f. let s = small _ (low place l) x f in let p = low place l in (omega arith, omega arith)) b e in
     (omega (arith, r.0), omega (arith, r.1))
 
--- delayed a valid gate: the bounds, and that they stay small
-pub delayed_some : (g : PlainGate) (o : Option Bounds) (b : Bounds) (x y : ℕ) → o ≡ Some b → x ≡ g.least → y ≡ g.greatest →
-    Some (record { lo = b.lo + x; hi = b.hi + y }) ≡ delayed g o
-delayed_some g o b x y e f h =
-    ap (λ (i : ℕ). Some (record { lo = b.lo + i; hi = b.hi + y })) f ∙ ap (λ (i : ℕ). Some (record { lo = b.lo + g.least; hi = b.hi + i })) h
-    ∙ ap (delayed g) (sym e)
-
 -- the pins of a valid gate are few, and on lower nets
 pub pins_fit : (g : PlainGate) (n limit : ℕ) → T (valid_gate n g) → n < limit → (pins : List ℕ) → pins ≡ g.pins →
     (length pins ≤ 8) × ((k : ℕ) → k < length pins → get_or pins k 0 < limit)
