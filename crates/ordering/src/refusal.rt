@@ -1,20 +1,17 @@
 // Why a source that takes no separations refuses one.
-ghost use Rattle.std.specs.Prelude.{false, []};
+ghost use Rattle.std.specs.Prelude.{false, [], ℤ};
 ghost use Rattle.separations.specs.Answer.{Refused};
 
 use netlist::Net;
 use runs::row::INPUTS;
 use separations::SeparationFault;
 
-// The first reason that applies to the separation of inputs a and b.
-pub(crate) fn refusal(a: Net, b: Net, _s: i32) -> SeparationFault
-    ensures { Refused false [] a b _s result }
+// The first reason that applies to a separation of inputs a and b.
+pub(crate) fn refusal(a: Net, b: Net) -> SeparationFault
+    ensures { (s : ℤ) → Refused false [] a b s result }
 {
-    if a as usize >= INPUTS {
-        SeparationFault::NoSuchInput(a)
-    } else if b as usize >= INPUTS {
-        SeparationFault::NoSuchInput(b)
-    } else {
-        SeparationFault::NotTaken
-    }
+    [a, b]
+        .into_iter()
+        .find(|n| usize::from(*n) >= INPUTS)
+        .map_or(SeparationFault::NotTaken, SeparationFault::NoSuchInput)
 }

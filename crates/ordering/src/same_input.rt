@@ -71,8 +71,8 @@ impl OrderSource for SameInput {
 
     fn clear(&mut self) {}
 
-    fn separate(&mut self, a: Net, b: Net, s: i32) -> Result<(), SeparationFault> {
-        Err(refusal(a, b, s))
+    fn separate(&mut self, a: Net, b: Net, _s: i32) -> Result<(), SeparationFault> {
+        Err(refusal(a, b))
     }
 
     fn before(&self, circuit: &Circuit, rows: &[Row], q: Net, p: Net) -> bool {

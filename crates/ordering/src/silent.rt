@@ -35,8 +35,8 @@ impl OrderSource for Silent {
 
     fn clear(&mut self) {}
 
-    fn separate(&mut self, a: Net, b: Net, s: i32) -> Result<(), SeparationFault> {
-        Err(refusal(a, b, s))
+    fn separate(&mut self, a: Net, b: Net, _s: i32) -> Result<(), SeparationFault> {
+        Err(refusal(a, b))
     }
 
     fn before(&self, _circuit: &Circuit, _rows: &[Row], _q: Net, _p: Net) -> bool {
