@@ -16,7 +16,7 @@ unfolding some_below
 some_same test m zero le past = let e : m ≡ 0 = omega arith in ap (some_below test) e
 some_same test m (suc n) le past =
     ⊎_elim
-    (λ l. some_same test m n (omega arith) (λ k a b. past k a (omega arith)) 
+    (λ l. some_same test m n (omega arith) (λ k a b. past k a (omega arith))
     ∙ sym (ap (λ (b : Bool). some_below test n || b) (past n (omega arith) (omega arith)) ∙ or-false (some_below test n)))
     (λ l. let e : m ≡ suc n = omega arith in ap (some_below test) e)
     (cases_lt m (suc n))

@@ -1,19 +1,15 @@
 // The same-input source: it takes no separation, and orders two nets that flip because of one and the same clean input alone.
-ghost use Rattle.std.specs.Prelude.{◌≡◌, ◌<◌, false, [], slice_index_or};
+ghost use Rattle.std.specs.Prelude.{◌≡◌, ◌<◌};
 ghost use Rattle.netlist.specs.View.{plain};
 ghost use Rattle.ordering.specs.Rows.{every_below, some_below};
 ghost use Rattle.ordering.specs.SameInput.{none_but, only_input, same_input};
 ghost use Rattle.ordering.specs.SameInputLaws.{same_input_first, same_input_third};
-ghost use Rattle.classes.specs.declared.class.Class.TheVariants.{C000};
-ghost use Rattle.ordering.specs.Samples.{sample, sample_in};
 
-use crate::refusal::refusal;
+use crate::from_rows::FromRows;
 use crate::rows::{Lent, Pair, is_below};
-use crate::source::OrderSource;
 use netlist::{Circuit, Net};
 use runs::Row;
 use runs::row::INPUTS;
-use separations::SeparationFault;
 
 // Whether number j is i, or gives no bounds at either row.
 fn is_none_but(pair: Pair, i: usize, j: usize) -> bool
@@ -50,32 +46,14 @@ fn has_only_input(pair: Pair) -> bool
 #[derive(Clone, Copy)]
 pub struct SameInput;
 
-impl OrderSource for SameInput {
-    ghost takes = { false };
+impl FromRows for SameInput {
+    ghost tells = { same_input };
 
-    ghost held = { λ s. [] };
+    ghost right = { same_input_first };
 
-    ghost says = { same_input };
+    ghost rowed = { same_input_third };
 
-    const TAKES: bool = false;
-
-    ghost first = { same_input_first };
-
-    ghost second = { λ x classes. (λ i. sample (slice_index_or classes i C000) 0, λ i. sample_in (slice_index_or classes i C000) 0, tt) };
-
-    ghost third = { same_input_third };
-
-    fn accepts() -> bool {
-        Self::TAKES
-    }
-
-    fn clear(&mut self) {}
-
-    fn separate(&mut self, a: Net, b: Net, _s: i32) -> Result<(), SeparationFault> {
-        Err(refusal(a, b))
-    }
-
-    fn before(&self, circuit: &Circuit, rows: &[Row], q: Net, p: Net) -> bool {
+    fn tells(&self, circuit: &Circuit, rows: &[Row], q: Net, p: Net) -> bool {
         let lent = Lent { circuit, rows };
         let (Some(earlier), Some(later)) = (lent.row(q), lent.row(p)) else {
             return false;

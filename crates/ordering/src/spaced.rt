@@ -95,7 +95,7 @@ impl Spaced {
 }
 
 impl OrderSource for Spaced {
-    ghost takes = { true };
+    ghost TAKES = { true };
 
     ghost held = { λ s. held_by s.held };
 
@@ -110,10 +110,6 @@ impl OrderSource for Spaced {
         (λ i. sample (slice_index_or classes i C000) (met.0 i), λ i. sample_in (slice_index_or classes i C000) (met.0 i), samples_meet_all classes met.0 (held_by x.held) met.1) };
 
     ghost third = { spaced_third };
-
-    fn accepts() -> bool {
-        Self::TAKES
-    }
 
     fn clear(&mut self) {
         self.held.clear();

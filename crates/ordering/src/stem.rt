@@ -168,8 +168,10 @@ pub struct Stem<S> {
     pub below: S,
 }
 
+// The other layer passes the same on to its source below. One impl for both would stand beside that of `FromRows`, and two impls for every
+// type overlap.
 impl<S: OrderSource> OrderSource for Stem<S> {
-    ghost takes = { S.OrderSource.takes };
+    ghost TAKES = { S.OrderSource.TAKES };
 
     ghost held = { λ s. S.OrderSource.held s.below };
 
@@ -182,10 +184,6 @@ impl<S: OrderSource> OrderSource for Stem<S> {
     ghost second = { Prim.search rules };
 
     ghost third = { stem_third S.OrderSource.says S.OrderSource.third };
-
-    fn accepts() -> bool {
-        S::accepts()
-    }
 
     fn clear(&mut self) {
         self.below.clear();
