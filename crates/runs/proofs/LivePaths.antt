@@ -62,3 +62,7 @@ path_sums valid (start l v) = (omega arith, omega arith)
 path_sums {c} valid (step k place l m u v p) =
     let s = path_sums valid p in let g = gate_good c valid k l in let b = g.lower place m in
     (omega (arith, g.ordered), omega (arith, g.short))
+
+-- both lists have rows up to net n, and the same ones
+abbrev pub Alike : List Row → List Row → ℕ → Type 0
+Alike rows others n = (m : ℕ) → m ≤ n → (m < length rows) × (m < length others) × (row_at rows m ≡ row_at others m)
