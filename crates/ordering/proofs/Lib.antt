@@ -1,2 +1,3 @@
 -- The lemmas of this crate, by subject.
 pub mod TieSteps
+pub mod Ranges

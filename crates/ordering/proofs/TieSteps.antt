@@ -1,7 +1,7 @@
 -- The table of ties, filled net by net: it comes to the ties, its bounds stay small, and nothing below the stem is tied. Assumes nothing.
-use Rattle.std.proofs.Common.{◌≡◌, ℕ, zero, suc, ◌+◌, ◌-◌, ◌*◌, ◌<◌, ◌≤◌, min, max, Bool, true, false, cond, ◌||◌, T, eqb, ltb, ◌⊎◌, List, [], ◌∷◌, length, get_or, drop, set, replicate, is_some, Some, None, Option, sym, refl, ap, ◌∙◌, subst, inl, inr, arith}
+use Rattle.std.proofs.Common.{◌≡◌, ℕ, zero, suc, ◌+◌, ◌-◌, ◌*◌, ◌<◌, ◌≤◌, min, max, Bool, true, false, cond, ◌||◌, T, eqb, ltb, ◌⊎◌, List, [], ◌∷◌, length, get_or, drop, set, replicate, Some, None, Option, sym, refl, ap, ◌∙◌, subst, inl, inr, arith}
 use Rattle.std.proofs.lemmas.List.{at_drop_more, at_drop_all, get_or_past, get_or-set_same, get_or-set_other, length-set, length-replicate}
-use Rattle.std.proofs.lemmas.Bool.{cond-true, cond-false, or_parts, ltb-false, ltb-true, ne_eqb, not-true, not-false, cases_order, cases_eq, cases_lt, and_parts, and_cases, and_left, and_right, or_cases, or_left, or_right, eqb-false, true≢false, false≢true}
+use Rattle.std.proofs.lemmas.Bool.{cond-true, cond-false, or_parts, ltb-false, ltb-true, ne_eqb, not-true, not-false, cases_order, cases_eq, cases_lt, and_parts, and_cases, and_left, and_right, or_cases, or_left, or_right, eqb-false, true≢false}
 use Rattle.classes.specs.Class.{is_constant, is_clean}
 use Rattle.netlist.specs.Circuit.{PlainGate, PlainCircuit, valid_gate, valid_circuit, net_count}
 use Rattle.runs.specs.declared.row.Bounds.{Bounds}
@@ -9,8 +9,8 @@ use Rattle.runs.specs.declared.row.Row.{Row}
 use Rattle.runs.specs.Run.{gate_at}
 use Rattle.runs.specs.Row.{row_at}
 use Rattle.runs.specs.Gathered.{delayed, joined}
-use Rattle.runs.proofs.Circuits.{good_gate, gate_good}
-use Rattle.ordering.specs.Rows.{some_below, row_count, can_move, clean_net, below}
+use Rattle.runs.proofs.Circuits.{good_gate, gate_good, pins_few}
+use Rattle.ordering.specs.Rows.{some_below, row_count, has_row, can_move, clean_net, below}
 use Rattle.ordering.specs.Stem.{all_tied, live_pin, live_ties, tie_of, ties_below, tie, tied_apart}
 use Rattle.ordering.specs.TieTable.{AtMost, SmallBelow, is_apart}
 use Rattle.ordering.specs.Below.{some_none, some_same}
@@ -181,31 +181,20 @@ pub join_skips : (rows : List Row) (ts : List (Option Bounds)) (row : Row) (ns :
 join_skips rows ts row ns k all next whole l dead e h =
     ap (λ (o : Option Bounds). all_tied o (live_ties rows ts row (k + 1) (drop (k + 1) ns))) e ∙ ap (all_tied all) (sym (cond-false _ _ _ dead)) ∙ sym (at_drop_more (λ (x : List ℕ). all_tied all (live_ties rows ts row k x)) ns k 0 l) ∙ h
 
--- with one more tie taken in, what is left gives the same; where that is none, the whole is none
-tied_on : (all o : Option Bounds) (ts : List (Option Bounds)) → is_some (all_tied all (o ∷ [])) ≡ true → all_tied (all_tied all (o ∷ [])) ts ≡ all_tied all (o ∷ ts)
-tied_on all None ts h = absurd (false≢true h)
-tied_on all (Some t) ts h = refl
-
-tied_off : (all o : Option Bounds) (ts : List (Option Bounds)) → is_some (all_tied all (o ∷ [])) ≡ false → None ≡ all_tied all (o ∷ ts)
-tied_off all None ts h = refl
-tied_off None (Some t) ts h = absurd (true≢false h)
-tied_off (Some b) (Some t) ts h = absurd (true≢false h)
-
-pub join_takes : (rows : List Row) (ts : List (Option Bounds)) (row : Row) (ns : List ℕ) (k : ℕ) (all next whole : Option Bounds) → k < length ns →
-    live_pin rows row k (get_or ns k 0) ≡ true → next ≡ all_tied all (get_or ts (get_or ns k 0) None ∷ []) → is_some next ≡ true →
+pub join_takes : (rows : List Row) (ts : List (Option Bounds)) (row : Row) (ns : List ℕ) (k : ℕ) (all next whole : Option Bounds) (t : Bounds) → k < length ns →
+    live_pin rows row k (get_or ns k 0) ≡ true → get_or ts (get_or ns k 0) None ≡ Some t → next ≡ joined all (Some t) →
     all_tied all (live_ties rows ts row k (drop k ns)) ≡ whole →
     all_tied next (live_ties rows ts row (k + 1) (drop (k + 1) ns)) ≡ whole
-join_takes rows ts row ns k all next whole l live e some h =
+join_takes rows ts row ns k all next whole t l live tied e h =
     let rest = live_ties rows ts row (k + 1) (drop (k + 1) ns) in
-    ap (λ (o : Option Bounds). all_tied o rest) e ∙ tied_on all _ rest (sym (ap is_some e) ∙ some)
+    ap (λ (o : Option Bounds). all_tied o rest) e ∙ ap (λ (o : Option Bounds). all_tied all (o ∷ rest)) (sym tied)
     ∙ ap (all_tied all) (sym (cond-true _ _ _ live)) ∙ sym (at_drop_more (λ (x : List ℕ). all_tied all (live_ties rows ts row k x)) ns k 0 l) ∙ h
 
-pub join_stops : (rows : List Row) (ts : List (Option Bounds)) (row : Row) (ns : List ℕ) (k : ℕ) (all next whole : Option Bounds) → k < length ns →
-    live_pin rows row k (get_or ns k 0) ≡ true → next ≡ all_tied all (get_or ts (get_or ns k 0) None ∷ []) → is_some next ≡ false →
+pub join_stops : (rows : List Row) (ts : List (Option Bounds)) (row : Row) (ns : List ℕ) (k : ℕ) (all whole : Option Bounds) → k < length ns →
+    live_pin rows row k (get_or ns k 0) ≡ true → get_or ts (get_or ns k 0) None ≡ None →
     all_tied all (live_ties rows ts row k (drop k ns)) ≡ whole → None ≡ whole
-join_stops rows ts row ns k all next whole l live e none h =
-    let rest = live_ties rows ts row (k + 1) (drop (k + 1) ns) in
-    tied_off all (get_or ts (get_or ns k 0) None) rest (sym (ap is_some e) ∙ none)
+join_stops rows ts row ns k all whole l live none h =
+    ap (λ (o : Option Bounds). all_tied all (o ∷ live_ties rows ts row (k + 1) (drop (k + 1) ns))) (sym none)
     ∙ ap (all_tied all) (sym (cond-true _ _ _ live)) ∙ sym (at_drop_more (λ (x : List ℕ). all_tied all (live_ties rows ts row k x)) ns k 0 l) ∙ h
 
 pub join_ends : (rows : List Row) (ts : List (Option Bounds)) (row : Row) (ns : List ℕ) (k : ℕ) (all whole : Option Bounds) → length ns ≤ k →
@@ -249,12 +238,15 @@ pins_small rows ts row (m ∷ ms) n small low b e =
     (λ place l x f. let s = small _ (low place l) x f in let p = low place l in (omega arith, omega arith)) b e in
     (omega (arith, r.0), omega (arith, r.1))
 
--- delayed a valid gate: the bounds, and that they stay small
-pub delayed_some : (g : PlainGate) (o : Option Bounds) (b : Bounds) (x y : ℕ) → o ≡ Some b → x ≡ g.least → y ≡ g.greatest →
-    Some (record { lo = b.lo + x; hi = b.hi + y }) ≡ delayed g o
-delayed_some g o b x y e f h =
-    ap (λ (i : ℕ). Some (record { lo = b.lo + i; hi = b.hi + y })) f ∙ ap (λ (i : ℕ). Some (record { lo = b.lo + g.least; hi = b.hi + i })) h
-    ∙ ap (delayed g) (sym e)
+-- the pins of a valid gate are few, and on lower nets
+pub pins_fit : (g : PlainGate) (n limit : ℕ) → T (valid_gate n g) → n < limit → (pins : List ℕ) → pins ≡ g.pins →
+    (length pins ≤ 8) × ((k : ℕ) → k < length pins → get_or pins k 0 < limit)
+pins_fit g n limit valid l pins same =
+    let good = good_gate n g valid in
+    let few = pins_few g.function (length g.pins) good.pin_count in (
+      omega (arith, few.1, ap length same),
+      λ k m. omega (arith, good.lower k (omega (arith, ap length same, m)), ap (λ (xs : List ℕ). get_or xs k 0) same),
+    )
 
 -- what the pins of a gate came to, as the program read them
 pub record Sums (rows : List Row) (ts : List (Option Bounds)) (row : Row) (g : PlainGate) (n : ℕ) (b : Bounds) : Type 0 where
@@ -280,9 +272,13 @@ get_d_none zero k = refl
 get_d_none (suc n) zero = refl
 get_d_none (suc n) (suc k) = get_d_none n k
 
+-- the table has the ties of the nets below n, and they are small
+abbrev pub HasTies : PlainCircuit → List Row → ℕ → List (Option Bounds) → ℕ → Type 0
+HasTies c rows s ts n = (length ts ≡ 256) × ((k : ℕ) → k < n → get_or ts k None ≡ tie c rows s k) × SmallBelow ts n
+
 -- the table at the start: it has the ties of the nets below the stem
 pub table_starts : (c : PlainCircuit) → T (valid_circuit c) → (rows : List Row) (s : ℕ) (ts : List (Option Bounds)) → ts ≡ replicate 256 None →
-    (length ts ≡ 256) × ((k : ℕ) → k < s → get_or ts k None ≡ tie c rows s k) × SmallBelow ts s
+    HasTies c rows s ts s
 table_starts c valid rows s ts e =
     let empty = λ (k : ℕ). ap (λ (us : List (Option Bounds)). get_or us k None) e ∙ get_d_none 256 k in (
       ap length e ∙ length-replicate {A = Option Bounds} 256 None,
@@ -290,17 +286,25 @@ table_starts c valid rows s ts e =
       λ k l b f. let h = empty k in let z : ◌≡◌ {A = ℕ} 0 1 = cc in absurd (omega arith),
     )
 
+-- the tie of a net that may have no row
+tie_if_row : (c : PlainCircuit) → T (valid_circuit c) → (rows : List Row) (s : ℕ) (ts : List (Option Bounds)) (n : ℕ) →
+    ((k : ℕ) → k < n → get_or ts k None ≡ tie c rows s k) → cond (has_row c rows n) (tie_of c rows s ts n) None ≡ tie c rows s n
+tie_if_row c valid rows s ts n h = go (has_row c rows n) refl
+  where
+    go : (b : Bool) → has_row c rows n ≡ b → cond b (tie_of c rows s ts n) None ≡ tie c rows s n
+    go true e = tie_from c valid rows s ts n (ltb-true n (row_count c rows) e) h
+    go false e = sym (tie_past c rows s n (ltb-false n (row_count c rows) e))
+
 -- one more net
-pub table_grows : (c : PlainCircuit) → T (valid_circuit c) → (rows : List Row) (s : ℕ) (ts : List (Option Bounds)) (n : ℕ) → n < row_count c rows → n < 256 →
-    (length ts ≡ 256) × ((k : ℕ) → k < n → get_or ts k None ≡ tie c rows s k) × SmallBelow ts n →
-    (o : Option Bounds) → o ≡ tie_of c rows s ts n → AtMost (65535 * n) o →
-    (length (set ts n o) ≡ 256) × ((k : ℕ) → k < n + 1 → get_or (set ts n o) k None ≡ tie c rows s k) × SmallBelow (set ts n o) (n + 1)
-table_grows c valid rows s ts n l m inv o told small =
+grows_at : (c : PlainCircuit) → T (valid_circuit c) → (rows : List Row) (s : ℕ) (ts : List (Option Bounds)) (n : ℕ) → n < 256 →
+    HasTies c rows s ts n → (o : Option Bounds) → o ≡ cond (has_row c rows n) (tie_of c rows s ts n) None → AtMost (65535 * n) o →
+    HasTies c rows s (set ts n o) (n + 1)
+grows_at c valid rows s ts n l inv o told small =
     let len = inv.0 in
     let here : get_or (set ts n o) n None ≡ o = get_or-set_same ts n o None (omega arith) in (
       length-set ts n o ∙ len,
       λ k h. elim (cases_eq k n) [
-        | inl e ↦ ap (λ (i : ℕ). get_or (set ts n o) i None) e ∙ here ∙ told ∙ tie_from c valid rows s ts n l inv.1 ∙ ap (tie c rows s) (sym e)
+        | inl e ↦ ap (λ (i : ℕ). get_or (set ts n o) i None) e ∙ here ∙ told ∙ tie_if_row c valid rows s ts n inv.1 ∙ ap (tie c rows s) (sym e)
         | inr ne ↦ get_or-set_other ts n k o None ne ∙ inv.1 k (omega arith)
       ],
       λ k h b f. elim (cases_eq k n) [
@@ -308,6 +312,12 @@ table_grows c valid rows s ts n l m inv o told small =
         | inr ne ↦ inv.2 k (omega arith) b (sym (get_or-set_other ts n k o None ne) ∙ f)
       ],
     )
+
+pub table_grows : (c : PlainCircuit) → T (valid_circuit c) → (rows : List Row) (s : ℕ) (ts : List (Option Bounds)) (n : ℕ) → n < 256 →
+    HasTies c rows s ts n → (o : Option Bounds) → o ≡ cond (has_row c rows n) (tie_of c rows s ts n) None → AtMost (65535 * n) o →
+    (i : ℕ) → i ≡ n → HasTies c rows s (set ts i o) (n + 1)
+table_grows c valid rows s ts n l inv o told small i e =
+    subst (λ (k : ℕ). HasTies c rows s (set ts k o) (n + 1)) (sym e) (grows_at c valid rows s ts n l inv o told small)
 
 -- nothing is tied apart by a stem above one of the two nets, or where one of them has no row
 below_none : (x : Option Bounds) → below x None ≡ false
@@ -347,8 +357,8 @@ no_stem c valid rows q p h =
     go s true e = not_apart c rows q p s (elim h [ inl l ↦ inl (idle_untied c valid rows q s l e) | inr l ↦ inr (idle_untied c valid rows p s l e) ])
     go s false e = and_left _ _ e
 
-pub no_higher_stem : (c : PlainCircuit) → T (valid_circuit c) → (rows : List Row) (q p m : ℕ) → m ≤ row_count c rows → (q < m) ⊎ (p < m) →
+pub no_higher_stem : (c : PlainCircuit) → T (valid_circuit c) → (rows : List Row) (q p m : ℕ) → m ≤ row_count c rows → min q p < m →
     some_below (tied_apart c rows q p) m ≡ some_below (tied_apart c rows q p) (row_count c rows)
 no_higher_stem c valid rows q p m l h =
     some_same (tied_apart c rows q p) m (row_count c rows) l
-    (λ s a b. not_apart c rows q p s (elim h [ inl x ↦ inl (tie_low c valid rows s q (omega arith)) | inr x ↦ inr (tie_low c valid rows s p (omega arith)) ]))
+    (λ s a b. not_apart c rows q p s (elim (cases_lt q s) [ inl x ↦ inl (tie_low c valid rows s q x) | inr x ↦ inr (tie_low c valid rows s p (omega arith)) ]))

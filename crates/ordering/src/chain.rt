@@ -6,45 +6,29 @@ ghost use Rattle.ordering.specs.Rows.{some_below, row_count};
 ghost use Rattle.ordering.specs.ChainLaws.{chain_first, chain_third};
 ghost use Rattle.std.proofs.Common.{rules};
 
-use crate::rows::{has_row, is_clean, row_count};
+use crate::rows::Lent;
 use crate::source::OrderSource;
 use netlist::{Circuit, Net};
 use runs::Row;
 use separations::SeparationFault;
 
 // Whether net m is clean, and the source says q before m and m before p.
-fn is_through<S: OrderSource>(
-    source: &S,
-    circuit: &Circuit,
-    rows: &[Row],
-    q: Net,
-    p: Net,
-    m: Net,
-) -> bool
-    ensures { result ≡ through (S.OrderSource.says (S.OrderSource.held source.now) (plain circuit.now) rows.now) (plain circuit.now) rows.now q p m }
+fn is_through<S: OrderSource>(source: &S, lent: Lent, q: Net, p: Net, m: Net) -> bool
+    ensures { result ≡ through (S.OrderSource.says (S.OrderSource.held source.now) (plain lent.entry.circuit.now) lent.entry.rows.now) (plain lent.entry.circuit.now) lent.entry.rows.now q p m }
 {
-    is_clean(circuit, rows, m)
-        && source.before(circuit, rows, q, m)
-        && source.before(circuit, rows, m, p)
+    lent.is_clean(m)
+        && source.before(lent.circuit, lent.rows, q, m)
+        && source.before(lent.circuit, lent.rows, m, p)
 }
 
 // Whether for some clean net that has a row the source says q before it and it before p.
-fn has_middle<S: OrderSource>(source: &S, circuit: &Circuit, rows: &[Row], q: Net, p: Net) -> bool
-    ensures { result ≡ some_below (through (S.OrderSource.says (S.OrderSource.held source.now) (plain circuit.now) rows.now) (plain circuit.now) rows.now q p) (row_count (plain circuit.now) rows.now) }
+fn has_middle<S: OrderSource>(source: &S, lent: Lent, q: Net, p: Net) -> bool
+    ensures { result ≡ some_below (through (S.OrderSource.says (S.OrderSource.held source.now) (plain lent.entry.circuit.now) lent.entry.rows.now) (plain lent.entry.circuit.now) lent.entry.rows.now q p) (row_count (plain lent.entry.circuit.now) lent.entry.rows.now) }
 {
     // a source below orders no net that has no row
-    if !has_row(circuit, rows, q) {
-        return false;
-    }
-    if !has_row(circuit, rows, p) {
-        return false;
-    }
-    for m in 0..row_count(circuit, rows) {
-        if is_through(source, circuit, rows, q, p, m as Net) {
-            return true;
-        }
-    }
-    false
+    lent.has_row(q)
+        && lent.has_row(p)
+        && (0..lent.row_count()).any(|m| is_through(source, lent, q, p, m as Net))
 }
 
 #[derive(Drop)]
@@ -52,8 +36,10 @@ pub struct Chain<S> {
     pub below: S,
 }
 
+// The other layer passes the same on to its source below. One impl for both would stand beside that of `FromRows`, and two impls for every
+// type overlap.
 impl<S: OrderSource> OrderSource for Chain<S> {
-    ghost takes = { S.OrderSource.takes };
+    ghost TAKES = { S.OrderSource.TAKES };
 
     ghost held = { λ s. S.OrderSource.held s.below };
 
@@ -67,10 +53,6 @@ impl<S: OrderSource> OrderSource for Chain<S> {
 
     ghost third = { chain_third S.OrderSource.says S.OrderSource.third };
 
-    fn accepts() -> bool {
-        S::accepts()
-    }
-
     fn clear(&mut self) {
         self.below.clear();
     }
@@ -80,6 +62,7 @@ impl<S: OrderSource> OrderSource for Chain<S> {
     }
 
     fn before(&self, circuit: &Circuit, rows: &[Row], q: Net, p: Net) -> bool {
-        self.below.before(circuit, rows, q, p) || has_middle(&self.below, circuit, rows, q, p)
+        self.below.before(circuit, rows, q, p)
+            || has_middle(&self.below, Lent { circuit, rows }, q, p)
     }
 }

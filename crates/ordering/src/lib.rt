@@ -3,7 +3,7 @@
 
 pub mod asking;
 pub mod chain;
-mod refusal;
+pub mod from_rows;
 mod rows;
 pub mod same_input;
 pub mod silent;
@@ -13,6 +13,7 @@ pub mod stem;
 
 pub use asking::ordered;
 pub use chain::Chain;
+pub use from_rows::FromRows;
 pub use same_input::SameInput;
 pub use silent::Silent;
 pub use source::OrderSource;

@@ -1,93 +1,67 @@
 // The same-input source: it takes no separation, and orders two nets that flip because of one and the same clean input alone.
-ghost use Rattle.std.specs.Prelude.{◌≡◌, ◌<◌, false, [], slice_index_or};
+ghost use Rattle.std.specs.Prelude.{◌≡◌, ◌<◌};
 ghost use Rattle.netlist.specs.View.{plain};
 ghost use Rattle.ordering.specs.Rows.{every_below, some_below};
 ghost use Rattle.ordering.specs.SameInput.{none_but, only_input, same_input};
 ghost use Rattle.ordering.specs.SameInputLaws.{same_input_first, same_input_third};
-ghost use Rattle.classes.specs.declared.class.Class.TheVariants.{C000};
-ghost use Rattle.ordering.specs.Samples.{sample, sample_in};
 
-use crate::refusal::refusal;
-use crate::rows::{has_row, is_below, is_clean_input, row_at};
-use crate::source::OrderSource;
+use crate::from_rows::FromRows;
+use crate::rows::{Lent, Pair, is_below};
 use netlist::{Circuit, Net};
 use runs::Row;
 use runs::row::INPUTS;
-use separations::SeparationFault;
 
 // Whether number j is i, or gives no bounds at either row.
-fn is_none_but(i: usize, earlier: &Row, later: &Row, j: usize) -> bool
+fn is_none_but(pair: Pair, i: usize, j: usize) -> bool
     requires { j < 16 }
-    ensures { result ≡ none_but i earlier.now later.now j }
+    ensures { result ≡ none_but i pair.entry.earlier.now pair.entry.later.now j }
 {
-    j == i || !(earlier.bounds[j].is_some() || later.bounds[j].is_some())
+    j == i || !(pair.earlier.bounds[j].is_some() || pair.later.bounds[j].is_some())
 }
 
 // Whether no number but i gives bounds at either row.
-fn is_alone(i: usize, earlier: &Row, later: &Row) -> bool
-    ensures { result ≡ every_below (none_but i earlier.now later.now) 16 }
+fn is_alone(pair: Pair, i: usize) -> bool
+    ensures { result ≡ every_below (none_but i pair.entry.earlier.now pair.entry.later.now) 16 }
 {
-    for j in 0..INPUTS {
-        if !is_none_but(i, earlier, later, j) {
-            return false;
-        }
-    }
-    true
+    (0..INPUTS).all(|j| is_none_but(pair, i, j))
 }
 
 // Whether input i is clean, orders the two rows, and alone gives bounds at them.
-fn is_only_input(circuit: &Circuit, rows: &[Row], earlier: &Row, later: &Row, i: usize) -> bool
+fn is_only_input(pair: Pair, i: usize) -> bool
     requires { i < 16 }
-    ensures { result ≡ only_input (plain circuit.now) rows.now earlier.now later.now i }
+    ensures { result ≡ only_input (plain pair.entry.lent.circuit.now) pair.entry.lent.rows.now pair.entry.earlier.now pair.entry.later.now i }
 {
-    is_clean_input(circuit, rows, i as Net)
-        && is_below(earlier.bounds[i], later.bounds[i])
-        && is_alone(i, earlier, later)
+    pair.lent.is_clean_input(i as Net)
+        && is_below(pair.earlier.bounds[i], pair.later.bounds[i])
+        && is_alone(pair, i)
 }
 
 // Whether some input orders the two rows alone.
-fn has_only_input(circuit: &Circuit, rows: &[Row], earlier: &Row, later: &Row) -> bool
-    ensures { result ≡ some_below (only_input (plain circuit.now) rows.now earlier.now later.now) 16 }
+fn has_only_input(pair: Pair) -> bool
+    ensures { result ≡ some_below (only_input (plain pair.entry.lent.circuit.now) pair.entry.lent.rows.now pair.entry.earlier.now pair.entry.later.now) 16 }
 {
-    for i in 0..INPUTS {
-        if is_only_input(circuit, rows, earlier, later, i) {
-            return true;
-        }
-    }
-    false
+    (0..INPUTS).any(|i| is_only_input(pair, i))
 }
 
 #[derive(Clone, Copy)]
 pub struct SameInput;
 
-impl OrderSource for SameInput {
-    ghost takes = { false };
+impl FromRows for SameInput {
+    ghost tells = { same_input };
 
-    ghost held = { λ s. [] };
+    ghost right = { same_input_first };
 
-    ghost says = { same_input };
+    ghost rowed = { same_input_third };
 
-    const TAKES: bool = false;
-
-    ghost first = { same_input_first };
-
-    ghost second = { λ x classes. (λ i. sample (slice_index_or classes i C000) 0, λ i. sample_in (slice_index_or classes i C000) 0, tt) };
-
-    ghost third = { same_input_third };
-
-    fn accepts() -> bool {
-        Self::TAKES
-    }
-
-    fn clear(&mut self) {}
-
-    fn separate(&mut self, a: Net, b: Net, s: i32) -> Result<(), SeparationFault> {
-        Err(refusal(a, b, s))
-    }
-
-    fn before(&self, circuit: &Circuit, rows: &[Row], q: Net, p: Net) -> bool {
-        has_row(circuit, rows, q)
-            && has_row(circuit, rows, p)
-            && has_only_input(circuit, rows, row_at(rows, q), row_at(rows, p))
+    fn tells(&self, circuit: &Circuit, rows: &[Row], q: Net, p: Net) -> bool {
+        let lent = Lent { circuit, rows };
+        let (Some(earlier), Some(later)) = (lent.row(q), lent.row(p)) else {
+            return false;
+        };
+        has_only_input(Pair {
+            lent,
+            earlier,
+            later,
+        })
     }
 }

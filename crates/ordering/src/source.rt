@@ -11,7 +11,7 @@ use separations::SeparationFault;
 
 pub trait OrderSource: Sized {
     // whether separations are taken at all
-    ghost takes: { Bool };
+    ghost TAKES: { Bool };
 
     // the separations that are held
     ghost held: { Self → List Separation };
@@ -21,17 +21,13 @@ pub trait OrderSource: Sized {
 
     const TAKES: bool;
 
-    // Whether separations are taken.
-    fn accepts() -> bool
-        ensures { result ≡ takes };
-
     // Gives up every separation.
     fn clear(&mut self)
         ensures { held self.new ≡ [] };
 
     // Takes the separation of inputs a and b by s ticks, or says why not and stays as it was.
     fn separate(&mut self, a: Net, b: Net, s: i32) -> Result<(), SeparationFault>
-        ensures { Answered takes held self.old a b s result self.new };
+        ensures { Answered TAKES held self.old a b s result self.new };
 
     // Whether every flip of net q comes before every flip of net p, as far as the rows and what is held tell.
     fn before(&self, circuit: &Circuit, rows: &[Row], q: Net, p: Net) -> bool

@@ -10,7 +10,7 @@ ghost use Rattle.classes.specs.declared.class.Class.TheVariants.{C000};
 ghost use Rattle.separations.proofs.Held.{held_met};
 ghost use Rattle.ordering.specs.Samples.{sample, sample_in};
 
-use crate::rows::{has_row, is_clean_input, row_at};
+use crate::rows::{Lent, Pair};
 use crate::source::OrderSource;
 use netlist::{Circuit, Net};
 use runs::row::INPUTS;
@@ -21,103 +21,14 @@ use separations::{SeparationFault, Separations};
 fn is_bounded(row: &Row) -> bool
     ensures { result ≡ some_below (bounded_by row.now) 16 }
 {
-    for i in 0..INPUTS {
-        if row.bounds[i].is_some() {
-            return true;
-        }
-    }
-    false
+    row.bounds.iter().any(Option::is_some)
 }
 
 // Whether there is a spacing that spaces the bounds.
 fn is_spaced_by(spacing: Option<i32>, x: Bounds, y: Bounds) -> bool
     ensures { result ≡ spaced_by spacing x y }
 {
-    let Some(s) = spacing else { return false };
-    i64::from(x.hi) < i64::from(y.lo) + i64::from(s)
-}
-
-// Whether the bounds that number j gives at one row agree with those that number i gives at another.
-fn is_agreed(
-    held: &Separations,
-    circuit: &Circuit,
-    rows: &[Row],
-    j: Net,
-    i: Net,
-    x: Option<Bounds>,
-    y: Option<Bounds>,
-) -> bool
-    ensures { result ≡ agreed (held_by held.now) (plain circuit.now) rows.now j i x y }
-{
-    let Some(a) = x else { return true };
-    let Some(b) = y else { return true };
-    if j == i {
-        is_clean_input(circuit, rows, i) && a.hi < b.lo
-    } else {
-        is_spaced_by(held.get(j, i), a, b)
-    }
-}
-
-// Whether number j at the earlier row agrees with number i at the later.
-fn is_agreeing(
-    held: &Separations,
-    circuit: &Circuit,
-    rows: &[Row],
-    earlier: &Row,
-    later: &Row,
-    j: usize,
-    i: usize,
-) -> bool
-    requires { (j < 16) × (i < 16) }
-    ensures { result ≡ agrees (held_by held.now) (plain circuit.now) rows.now earlier.now later.now j i }
-{
-    is_agreed(
-        held,
-        circuit,
-        rows,
-        j as Net,
-        i as Net,
-        earlier.bounds[j],
-        later.bounds[i],
-    )
-}
-
-// Whether number j at the earlier row agrees with every number at the later.
-fn is_agreeing_with_all(
-    held: &Separations,
-    circuit: &Circuit,
-    rows: &[Row],
-    earlier: &Row,
-    later: &Row,
-    j: usize,
-) -> bool
-    requires { j < 16 }
-    ensures { result ≡ agrees_with_all (held_by held.now) (plain circuit.now) rows.now earlier.now later.now j }
-{
-    for i in 0..INPUTS {
-        if !is_agreeing(held, circuit, rows, earlier, later, j, i) {
-            return false;
-        }
-    }
-    true
-}
-
-// Whether every number at the earlier row agrees with every number at the later.
-fn are_agreeing(
-    held: &Separations,
-    circuit: &Circuit,
-    rows: &[Row],
-    earlier: &Row,
-    later: &Row,
-) -> bool
-    ensures { result ≡ every_below (agrees_with_all (held_by held.now) (plain circuit.now) rows.now earlier.now later.now) 16 }
-{
-    for j in 0..INPUTS {
-        if !is_agreeing_with_all(held, circuit, rows, earlier, later, j) {
-            return false;
-        }
-    }
-    true
+    spacing.is_some_and(|s| i64::from(x.hi) < i64::from(y.lo) + i64::from(s))
 }
 
 #[derive(Clone, Copy)]
@@ -141,10 +52,50 @@ impl Spaced {
     {
         self.held.get(a, b)
     }
+
+    // Whether the bounds that number j gives at one row agree with those that number i gives at another.
+    fn is_agreed(&self, lent: Lent, j: Net, i: Net, x: Option<Bounds>, y: Option<Bounds>) -> bool
+        ensures { result ≡ agreed (held_by self.now.held) (plain lent.entry.circuit.now) lent.entry.rows.now j i x y }
+    {
+        match (x, y) {
+            (Some(x), Some(y)) if j == i => lent.is_clean_input(i) && x.hi < y.lo,
+            (Some(x), Some(y)) => is_spaced_by(self.held.get(j, i), x, y),
+            _ => true,
+        }
+    }
+
+    // Whether number j at the earlier row agrees with number i at the later.
+    fn is_agreeing(&self, pair: Pair, j: usize, i: usize) -> bool
+        requires { (j < 16) × (i < 16) }
+        ensures { result ≡ agrees (held_by self.now.held) (plain pair.entry.lent.circuit.now) pair.entry.lent.rows.now pair.entry.earlier.now pair.entry.later.now j i }
+    {
+        self.is_agreed(
+            pair.lent,
+            j as Net,
+            i as Net,
+            pair.earlier.bounds[j],
+            pair.later.bounds[i],
+        )
+    }
+
+    // Whether number j at the earlier row agrees with every number at the later.
+    fn is_agreeing_with_all(&self, pair: Pair, j: usize) -> bool
+        requires { j < 16 }
+        ensures { result ≡ agrees_with_all (held_by self.now.held) (plain pair.entry.lent.circuit.now) pair.entry.lent.rows.now pair.entry.earlier.now pair.entry.later.now j }
+    {
+        (0..INPUTS).all(|i| self.is_agreeing(pair, j, i))
+    }
+
+    // Whether every number at the earlier row agrees with every number at the later.
+    fn are_agreeing(&self, pair: Pair) -> bool
+        ensures { result ≡ every_below (agrees_with_all (held_by self.now.held) (plain pair.entry.lent.circuit.now) pair.entry.lent.rows.now pair.entry.earlier.now pair.entry.later.now) 16 }
+    {
+        (0..INPUTS).all(|j| self.is_agreeing_with_all(pair, j))
+    }
 }
 
 impl OrderSource for Spaced {
-    ghost takes = { true };
+    ghost TAKES = { true };
 
     ghost held = { λ s. held_by s.held };
 
@@ -160,10 +111,6 @@ impl OrderSource for Spaced {
 
     ghost third = { spaced_third };
 
-    fn accepts() -> bool {
-        Self::TAKES
-    }
-
     fn clear(&mut self) {
         self.held.clear();
     }
@@ -173,10 +120,16 @@ impl OrderSource for Spaced {
     }
 
     fn before(&self, circuit: &Circuit, rows: &[Row], q: Net, p: Net) -> bool {
-        has_row(circuit, rows, q)
-            && has_row(circuit, rows, p)
-            && is_bounded(row_at(rows, q))
-            && is_bounded(row_at(rows, p))
-            && are_agreeing(&self.held, circuit, rows, row_at(rows, q), row_at(rows, p))
+        let lent = Lent { circuit, rows };
+        let (Some(earlier), Some(later)) = (lent.row(q), lent.row(p)) else {
+            return false;
+        };
+        is_bounded(earlier)
+            && is_bounded(later)
+            && self.are_agreeing(Pair {
+                lent,
+                earlier,
+                later,
+            })
     }
 }

@@ -1,16 +1,16 @@
 // A stem layer: over a source below, it also orders two nets that are tied to one clean net, their stem.
-ghost use Rattle.std.specs.Prelude.{◌≡◌, ℕ, ◌+◌, ◌-◌, ◌*◌, ◌<◌, ◌≤◌, false, T, [], ◌∷◌, length, replicate, Some, None, slice_index, slice_index_or};
+ghost use Rattle.std.specs.Prelude.{◌≡◌, ℕ, ◌+◌, ◌-◌, ◌*◌, ◌<◌, ◌≤◌, false, cond, T, [], ◌∷◌, length, replicate, Some, None, slice_index, slice_index_or};
 ghost use Rattle.netlist.specs.Circuit.{valid_gate};
 ghost use Rattle.netlist.specs.Plain.{plain_gate};
 ghost use Rattle.netlist.specs.View.{plain};
-ghost use Rattle.ordering.specs.Rows.{below, row_count, some_below};
+ghost use Rattle.ordering.specs.Rows.{below, has_row, row_count, some_below};
 ghost use Rattle.ordering.specs.Stem.{all_tied, live_pin, live_ties, tie_of, ties_below, tie, tied_apart, stemmed};
 ghost use Rattle.ordering.specs.TieTable.{AtMost, SmallBelow, is_apart};
-ghost use Rattle.runs.specs.Gathered.{delayed};
+ghost use Rattle.runs.specs.Gathered.{delayed, joined};
 ghost use Rattle.ordering.specs.StemLaws.{stem_first, stem_third};
 ghost use Rattle.std.proofs.Common.{rules};
 
-use crate::rows::{can_move, is_below, is_clean, row_at};
+use crate::rows::{Lent, is_below};
 use crate::source::OrderSource;
 use netlist::{Circuit, Gate, Net};
 use runs::{Bounds, Row, gate_of};
@@ -24,21 +24,14 @@ fn is_live(rows: &[Row], row: &Row, k: usize, n: Net) -> bool
     requires { (k < 8) × (n < length rows.now) }
     ensures { result ≡ live_pin rows.now row.now k n }
 {
-    row.held[k].is_none() && !row_at(rows, n).class.is_constant()
+    row.held[k].is_none() && !rows[usize::from(n)].class.is_constant()
 }
 
-// The bounds so far, joined with those of one more net, or none if it is not tied.
-fn joined_with(all: Option<Bounds>, tie: Option<Bounds>) -> Option<Bounds>
-    ensures { result ≡ all_tied all (tie ∷ []) }
+// The bounds so far, if any, joined with those of one more net.
+fn joined_with(all: Option<Bounds>, tie: Bounds) -> Bounds
+    ensures { Some result ≡ joined all (Some tie) }
 {
-    match (all, tie) {
-        (_, None) => None,
-        (None, Some(t)) => Some(t),
-        (Some(b), Some(t)) => Some(Bounds {
-            lo: if b.lo < t.lo { b.lo } else { t.lo },
-            hi: if b.hi < t.hi { t.hi } else { b.hi },
-        }),
-    }
+    all.map_or(tie, |all| all.join(tie))
 }
 
 // The bounds of all live pins, or none if there is none or one of them is not tied.
@@ -46,13 +39,11 @@ fn join(rows: &[Row], ties: &[Option<Bounds>; NETS], row: &Row, pins: &[Net]) ->
     requires { (length pins.now ≤ 8) × (((k : ℕ) → k < length pins.now → slice_index pins.now k < length rows.now)) }
     ensures { result ≡ all_tied None (live_ties rows.now ties.now row.now 0 pins.now) }
 {
-    let mut all = None;
-    for k in 0..pins.len() {
-        if is_live(rows, row, k, pins[k]) {
-            all = joined_with(all, ties[pins[k] as usize]);
-            if all.is_none() {
-                return None;
-            }
+    let mut all: Option<Bounds> = None;
+    for (k, &n) in pins.iter().enumerate() {
+        if is_live(rows, row, k, n) {
+            let tie = ties[usize::from(n)]?;
+            all = Some(joined_with(all, tie));
         }
     }
     all
@@ -70,36 +61,27 @@ fn tie_behind(
     ensures told { result ≡ delayed (plain_gate gate.now) (all_tied None (live_ties rows.now ties.now row.now 0 gate.now.pins.items)) }
     ensures small { AtMost (65535 * n) result }
 {
-    let Some(all) = join(rows, ties, row, gate.pins.as_slice()) else {
-        return None
-    };
+    let all = join(rows, ties, row, gate.pins.as_slice())?;
     Some(Bounds {
         lo: all.lo + u32::from(gate.least),
         hi: all.hi + u32::from(gate.greatest),
     })
 }
 
-// How net n is tied to net s, from the ties of the nets below n.
-fn tie_of(
-    circuit: &Circuit,
-    rows: &[Row],
-    s: Net,
-    ties: &[Option<Bounds>; NETS],
-    n: Net,
-) -> Option<Bounds>
-    requires { (n < row_count (plain circuit.now) rows.now) × (SmallBelow ties.now n) }
-    ensures told { result ≡ tie_of (plain circuit.now) rows.now s ties.now n }
+// How net n is tied to net s, from the ties of the nets below n; a net without a row is not tied.
+fn tie_of(lent: Lent, s: Net, ties: &[Option<Bounds>; NETS], n: Net) -> Option<Bounds>
+    requires { SmallBelow ties.now n }
+    ensures told { result ≡ cond (has_row (plain lent.entry.circuit.now) lent.entry.rows.now n) (tie_of (plain lent.entry.circuit.now) lent.entry.rows.now s ties.now n) None }
     ensures small { AtMost (65535 * n) result }
 {
+    let row = lent.row(n)?;
     if n == s {
         return Some(Bounds { lo: 0, hi: 0 });
     }
-    let row = row_at(rows, n);
     if row.class.is_constant() {
         return None;
     }
-    let gate = gate_of(circuit, n)?;
-    tie_behind(gate, rows, ties, row, n)
+    tie_behind(gate_of(lent.circuit, n)?, lent.rows, ties, row, n)
 }
 
 // Whether net n lies below net s or is another input; such a net is never tied to s.
@@ -110,12 +92,12 @@ fn is_apart(circuit: &Circuit, s: Net, n: Net) -> bool
 }
 
 // Whether all live pins may be tied to net s, as far as their numbers tell.
-fn may_tie_pins(circuit: &Circuit, rows: &[Row], s: Net, row: &Row, pins: &[Net]) -> bool
-    requires { (length pins.now ≤ 8) × (((k : ℕ) → k < length pins.now → slice_index pins.now k < length rows.now)) }
-    ensures { result ≡ false → all_tied None (live_ties rows.now (ties_below (plain circuit.now) rows.now s (row_count (plain circuit.now) rows.now)) row.now 0 pins.now) ≡ None }
+fn may_tie_pins(lent: Lent, s: Net, row: &Row, pins: &[Net]) -> bool
+    requires { (length pins.now ≤ 8) × (((k : ℕ) → k < length pins.now → slice_index pins.now k < length lent.rows.now)) }
+    ensures { result ≡ false → all_tied None (live_ties lent.entry.rows.now (ties_below (plain lent.entry.circuit.now) lent.entry.rows.now s (row_count (plain lent.entry.circuit.now) lent.entry.rows.now)) row.now 0 pins.now) ≡ None }
 {
-    for k in 0..pins.len() {
-        if is_apart(circuit, s, pins[k]) && is_live(rows, row, k, pins[k]) {
+    for (k, &n) in pins.iter().enumerate() {
+        if is_apart(lent.circuit, s, n) && is_live(lent.rows, row, k, n) {
             return false;
         }
     }
@@ -123,20 +105,22 @@ fn may_tie_pins(circuit: &Circuit, rows: &[Row], s: Net, row: &Row, pins: &[Net]
 }
 
 // Whether net n may be tied to net s, as far as the net and its own pins tell: a quick look that spares most passes.
-fn may_tie(circuit: &Circuit, rows: &[Row], s: Net, n: Net) -> bool
-    requires { n < row_count (plain circuit.now) rows.now }
-    ensures { result ≡ false → tie (plain circuit.now) rows.now s n ≡ None }
+fn may_tie(lent: Lent, s: Net, n: Net) -> bool
+    ensures { result ≡ false → tie (plain lent.entry.circuit.now) lent.entry.rows.now s n ≡ None }
 {
+    let Some(row) = lent.row(n) else {
+        return false;
+    };
     if n == s {
         return true;
     }
-    if is_apart(circuit, s, n) {
+    if is_apart(lent.circuit, s, n) {
         return false;
     }
-    let Some(gate) = gate_of(circuit, n) else {
+    let Some(gate) = gate_of(lent.circuit, n) else {
         return false;
     };
-    may_tie_pins(circuit, rows, s, row_at(rows, n), gate.pins.as_slice())
+    may_tie_pins(lent, s, row, gate.pins.as_slice())
 }
 
 // A table in which no net is tied.
@@ -147,65 +131,36 @@ fn untied() -> [Option<Bounds>; NETS]
 }
 
 // How the nets up to `top` are tied to net s.
-fn ties_to(circuit: &Circuit, rows: &[Row], s: Net, top: Net) -> [Option<Bounds>; NETS]
-    requires { top < row_count (plain circuit.now) rows.now }
-    ensures { (k : ℕ) → k ≤ top → slice_index_or result k None ≡ tie (plain circuit.now) rows.now s k }
+fn ties_to(lent: Lent, s: Net, top: Net) -> [Option<Bounds>; NETS]
+    ensures { (k : ℕ) → k ≤ top → slice_index_or result k None ≡ tie (plain lent.entry.circuit.now) lent.entry.rows.now s k }
 {
     let mut ties = untied();
-    for n in s as usize..top as usize + 1 {
-        ties[n] = tie_of(circuit, rows, s, &ties, n as Net);
+    for n in s..=top {
+        ties[usize::from(n)] = tie_of(lent, s, &ties, n);
     }
     ties
 }
 
 // Whether q and p are tied to net s, the greatest of q below the least of p.
-fn ties_apart(circuit: &Circuit, rows: &[Row], q: Net, p: Net, s: Net) -> bool
-    requires { (q < row_count (plain circuit.now) rows.now) × (p < row_count (plain circuit.now) rows.now) }
-    ensures { result ≡ below (tie (plain circuit.now) rows.now s q) (tie (plain circuit.now) rows.now s p) }
+fn ties_apart(lent: Lent, q: Net, p: Net, s: Net) -> bool
+    ensures { result ≡ below (tie (plain lent.entry.circuit.now) lent.entry.rows.now s q) (tie (plain lent.entry.circuit.now) lent.entry.rows.now s p) }
 {
-    let ties = ties_to(circuit, rows, s, if q < p { p } else { q });
-    is_below(ties[q as usize], ties[p as usize])
+    let ties = ties_to(lent, s, q.max(p));
+    is_below(ties[usize::from(q)], ties[usize::from(p)])
 }
 
 // Whether net s is clean and ties q and p apart.
-fn is_stem(circuit: &Circuit, rows: &[Row], q: Net, p: Net, s: Net) -> bool
-    requires { (q < row_count (plain circuit.now) rows.now) × (p < row_count (plain circuit.now) rows.now) }
-    ensures { result ≡ tied_apart (plain circuit.now) rows.now q p s }
+fn is_stem(lent: Lent, q: Net, p: Net, s: Net) -> bool
+    ensures { result ≡ tied_apart (plain lent.entry.circuit.now) lent.entry.rows.now q p s }
 {
-    is_clean(circuit, rows, s)
-        && may_tie(circuit, rows, s, q)
-        && may_tie(circuit, rows, s, p)
-        && ties_apart(circuit, rows, q, p, s)
-}
-
-// Whether some net up to `top` is clean and ties q and p apart.
-fn has_stem_up_to(circuit: &Circuit, rows: &[Row], q: Net, p: Net, top: Net) -> bool
-    requires { (q < row_count (plain circuit.now) rows.now) × (p < row_count (plain circuit.now) rows.now) }
-    ensures { result ≡ some_below (tied_apart (plain circuit.now) rows.now q p) (top + 1) }
-{
-    for s in 0..top as usize + 1 {
-        if is_stem(circuit, rows, q, p, s as Net) {
-            return true;
-        }
-    }
-    false
+    lent.is_clean(s) && may_tie(lent, s, q) && may_tie(lent, s, p) && ties_apart(lent, q, p, s)
 }
 
 // Whether some clean net that has a row ties q and p apart. It lies above neither of them, since ties only lead upward.
-fn has_stem(circuit: &Circuit, rows: &[Row], q: Net, p: Net) -> bool
-    ensures { result ≡ some_below (tied_apart (plain circuit.now) rows.now q p) (row_count (plain circuit.now) rows.now) }
+fn has_stem(lent: Lent, q: Net, p: Net) -> bool
+    ensures { result ≡ some_below (tied_apart (plain lent.entry.circuit.now) lent.entry.rows.now q p) (row_count (plain lent.entry.circuit.now) lent.entry.rows.now) }
 {
-    if !can_move(circuit, rows, q) {
-        return false;
-    }
-    if !can_move(circuit, rows, p) {
-        return false;
-    }
-    if q < p {
-        has_stem_up_to(circuit, rows, q, p, q)
-    } else {
-        has_stem_up_to(circuit, rows, q, p, p)
-    }
+    lent.can_move(q) && lent.can_move(p) && (0..=q.min(p)).any(|s| is_stem(lent, q, p, s))
 }
 
 #[derive(Drop)]
@@ -213,8 +168,10 @@ pub struct Stem<S> {
     pub below: S,
 }
 
+// The other layer passes the same on to its source below. One impl for both would stand beside that of `FromRows`, and two impls for every
+// type overlap.
 impl<S: OrderSource> OrderSource for Stem<S> {
-    ghost takes = { S.OrderSource.takes };
+    ghost TAKES = { S.OrderSource.TAKES };
 
     ghost held = { λ s. S.OrderSource.held s.below };
 
@@ -228,10 +185,6 @@ impl<S: OrderSource> OrderSource for Stem<S> {
 
     ghost third = { stem_third S.OrderSource.says S.OrderSource.third };
 
-    fn accepts() -> bool {
-        S::accepts()
-    }
-
     fn clear(&mut self) {
         self.below.clear();
     }
@@ -241,6 +194,6 @@ impl<S: OrderSource> OrderSource for Stem<S> {
     }
 
     fn before(&self, circuit: &Circuit, rows: &[Row], q: Net, p: Net) -> bool {
-        self.below.before(circuit, rows, q, p) || has_stem(circuit, rows, q, p)
+        self.below.before(circuit, rows, q, p) || has_stem(Lent { circuit, rows }, q, p)
     }
 }

@@ -204,7 +204,5 @@ mod tests {
         assert_eq!(rt; <Chain<Stem<Spaced>> as OrderSource>::TAKES, true);
         assert_eq!(rt; <Stem<Chain<SameInput>> as OrderSource>::TAKES, false);
         assert_eq!(rt; <Stem<Silent> as OrderSource>::TAKES, false);
-        assert_eq!(rt; <Chain<Stem<Spaced>> as OrderSource>::accepts(), true);
-        assert_eq!(rt; <Stem<Chain<SameInput>> as OrderSource>::accepts(), false);
     }
 }

@@ -1,7 +1,7 @@
 -- Lemmas on plain circuits: gates by place, and what validity says of each. Assumes nothing.
-use Rattle.std.proofs.Common.{◌≡◌, ℕ, zero, suc, ◌+◌, ◌-◌, ◌<◌, ◌≤◌, true, false, T, ltb, leb, ◌⊎◌, List, [], ◌∷◌, length, get_or, sym, ap, ◌∙◌, subst, inl, inr, add-zero, arith, ltb→lt, leb→le}
+use Rattle.std.proofs.Common.{◌≡◌, ℕ, zero, suc, ◌+◌, ◌-◌, ◌<◌, ◌≤◌, true, false, T, ltb, leb, ◌⊎◌, List, [], ◌∷◌, length, get_or, Some, None, Option, Bor, sym, ap, ◌∙◌, subst, inl, inr, add-zero, arith, ltb→lt, leb→le}
 use Rattle.std.proofs.lemmas.List.{get_or_default, get_or-map, length-map}
-use Rattle.std.proofs.lemmas.Bool.{and_cases, and_parts, cases_lt, leb-false, leb-true, ltb-false, ltb-true}
+use Rattle.std.proofs.lemmas.Bool.{and_cases, and_parts, cases_lt, false_from_ne_true, leb-false, leb-true, ltb-false, ltb-true}
 use Rattle.signals.proofs.Waveforms.{both_parts}
 use Rattle.functions.specs.declared.function.Function.{Function}
 use Rattle.functions.specs.declared.function.Function.TheVariants.{Buf, Not, And, Nand, Or, Nor, Xor, Xnor}
@@ -10,7 +10,9 @@ use Rattle.netlist.specs.Circuit.{PlainGate, PlainCircuit, all_below, valid_gate
 use Rattle.netlist.specs.declared.gate.Gate.{Gate}
 use Rattle.netlist.specs.Plain.{plain_gate, plain_gates}
 use Rattle.runs.specs.Run.{gate_at}
-use Rattle.runs.specs.GateOf.{has_gate}
+use Rattle.runs.specs.GateOf.{GateOf, has_gate}
+use Rattle.std.specs.Slice.{IsItemAt}
+use Rattle.std.specs.Option.{MatchOption}
 
 -- each number of such a list is below the limit
 pub below_limit : (limit : ℕ) (ns : List ℕ) → T (all_below limit ns) → (k d : ℕ) → k < length ns → get_or ns k d < limit
@@ -82,10 +84,6 @@ pins_few f n h =
 pub gate_default : (c : PlainCircuit) (k : ℕ) (d : PlainGate) → k < length c.gates → gate_at c k ≡ get_or c.gates k d
 gate_default c k d l = get_or_default c.gates k _ d l
 
--- a net that is no input is that of the gate at this place
-pub gate_place : (c : PlainCircuit) (n : ℕ) → c.inputs ≤ n → n < net_count c → (n - c.inputs < length c.gates) × (c.inputs + (n - c.inputs) ≡ n)
-gate_place c n h l = (omega arith, omega arith)
-
 -- a net is an input or the net of a gate
 pub net_cases : (c : PlainCircuit) (n : ℕ) → n < net_count c → (n < c.inputs) ⊎ ((k : ℕ) × (k < length c.gates) × (n ≡ c.inputs + k))
 net_cases c n l = elim (cases_lt n c.inputs) [ inl p ↦ inl p | inr p ↦ inr (n - c.inputs, omega arith, omega arith) ]
@@ -105,15 +103,23 @@ pub undriven : (c : PlainCircuit) (n : ℕ) → has_gate c n ≡ false → n < n
 undriven c n h l =
     elim (and_cases _ _ h) [ inl e ↦ leb-false _ _ e | inr e ↦ absurd (omega (arith, ltb-false _ _ e)) ]
 
--- a gate of the program, read by place from the slice of its gates, is that of the plain circuit
-module _ (c : PlainCircuit) (gates : List Gate) (i n : ℕ) (same : plain_gates gates ≡ c.gates) (is : i ≡ c.inputs) (low : c.inputs ≤ n) (high : n < net_count c) where
-  pub gate_within : n - i < length gates
-  gate_within = omega (arith, length-map gates plain_gate, ap length same)
-
-  pub gate_same : (g : Gate) → g ≡ get_or gates (n - i) g → plain_gate g ≡ gate_at c (n - c.inputs)
-  gate_same g read =
-      let d = gate_at (record { inputs = 0; gates = [] }) 0 in
-      ap plain_gate read ∙ sym (get_or-map plain_gate gates (n - i) g d gate_within) ∙ ap (λ (xs : List PlainGate). get_or xs (n - i) d) same ∙ ap (λ (k : ℕ). gate_at c (n - k)) is
-
-  pub gate_good_there : (g : Gate) → g ≡ get_or gates (n - i) g → T (valid_circuit c) → T (valid_gate n (plain_gate g))
-  gate_good_there g read valid = subst (λ (x : PlainGate). T (valid_gate n x)) (sym (gate_same g read)) (gate_valid c valid n low high)
+-- what the slice of the program's gates has at the place of a net's gate
+pub gate_read : (c : PlainCircuit) → T (valid_circuit c) → (gates : List Gate) (n place : ℕ) → plain_gates gates ≡ c.gates → c.inputs ≤ n → place ≡ n - c.inputs →
+    (o : Option (Bor Gate)) → IsItemAt gates place o → MatchOption o (has_gate c n ≡ false) (λ g. GateOf c n (plain_gate g.now))
+gate_read c valid gates n place same low is None past =
+    let m = ltb-false place (length gates) (sym past.0) in
+    false_from_ne_true _ (λ e. let d = driven c n e in omega (arith, m, d.1, length-map gates plain_gate, ap length same))
+gate_read c valid gates n place same low is (Some g) there =
+    let l = ltb-true place (length gates) (sym there.0) in
+    let high : n < net_count c = omega (arith, l, length-map gates plain_gate, ap length same) in
+    let read : plain_gate g.now ≡ gate_at c (n - c.inputs) =
+    let d = gate_at c (n - c.inputs) in
+    let got : g.now ≡ get_or gates place g.now = there.1 in
+    ap plain_gate got ∙ sym (get_or-map plain_gate gates place g.now d l) ∙ ap (λ (xs : List PlainGate). get_or xs place d) same
+    ∙ ap (λ (k : ℕ). get_or c.gates k d) is ∙ sym (gate_default c (n - c.inputs) d (omega (arith, high))) in
+    record {
+      past_inputs = low;
+      net = high;
+      same = read;
+      valid = subst (λ (x : PlainGate). T (valid_gate n x)) (sym read) (gate_valid c valid n low high);
+    }

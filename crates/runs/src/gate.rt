@@ -6,20 +6,10 @@ ghost use Rattle.runs.specs.GateOf.{GateOf, has_gate};
 
 use netlist::{Circuit, Gate, Net};
 
-// Whether a gate has this net: it is no input, and a net.
-fn is_driven(circuit: &Circuit, net: Net) -> bool
-    ensures { result ≡ has_gate (plain circuit.now) net }
-{
-    net >= circuit.inputs() && (net as usize) < circuit.nets()
-}
-
 // The gate whose net has this number, or none for an input and for a number that is no net.
 pub fn gate_of(circuit: &Circuit, net: Net) -> Option<&Gate>
     ensures { MatchOption result (has_gate (plain circuit.now) net ≡ false) (λ g. GateOf (plain circuit.now) net (plain_gate g.now)) }
 {
-    if is_driven(circuit, net) {
-        Some(&circuit.gates()[net as usize - usize::from(circuit.inputs())])
-    } else {
-        None
-    }
+    let place = usize::from(net).checked_sub(usize::from(circuit.inputs()))?;
+    circuit.gates().get(place)
 }

@@ -1,16 +1,7 @@
--- Each turn looks at one more input.
-use Rattle.std.proofs.Common.{rules}
-use Rattle.ordering.specs.Below.{somes}
+-- Each number is looked at.
+use Rattle.std.proofs.Common.{rules, tests}
+use Rattle.ordering.proofs.Ranges.{some_by_any}
 use Rattle.ordering.proofs.same_input.has_only_input.Goals as goal
 
-pub loop-i-init : goal.loop-i-init
-loop-i-init c = search (rules, somes)
-
-pub loop-i-preserved : goal.loop-i-preserved
-loop-i-preserved c = search (rules, somes)
-
-pub returns-then-is_only_input : goal.returns-then-is_only_input
-returns-then-is_only_input c = search (rules, somes)
-
 pub returns : goal.returns
-returns c = search (rules, somes)
+returns c = some_by_any c.any.ensures.ran (cc) (λ k b q h. search (rules, tests))

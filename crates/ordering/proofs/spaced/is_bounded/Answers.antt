@@ -1,16 +1,11 @@
--- Each turn looks at one more number.
-use Rattle.std.proofs.Common.{rules}
-use Rattle.ordering.specs.Below.{somes}
+-- Each place is looked at.
+use Rattle.std.proofs.Common.{is_some, None, ◌∙◌, rules, tests}
+use Rattle.std.proofs.lemmas.Iterator.{YieldsList-from_slice}
+use Rattle.std.proofs.lemmas.Iterator.Search.{any_from_yields_List}
+use Rattle.ordering.proofs.Ranges.{some_of_list}
 use Rattle.ordering.proofs.spaced.is_bounded.Goals as goal
 
-pub loop-i-init : goal.loop-i-init
-loop-i-init c = search (rules, somes)
-
-pub loop-i-preserved : goal.loop-i-preserved
-loop-i-preserved c = search (rules, somes)
-
-pub returns-then-is_some : goal.returns-then-is_some
-returns-then-is_some c = search (rules, somes)
-
 pub returns : goal.returns
-returns c = search (rules, somes)
+returns c =
+    any_from_yields_List _ _ _ _ c.any.ensures.ran (YieldsList-from_slice c.args.row.now.bounds (cc)) (λ x b q h. search (rules, tests))
+    ∙ some_of_list is_some c.args.row.now.bounds None 16 (search rules)
