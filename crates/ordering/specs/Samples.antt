@@ -1,8 +1,9 @@
 -- One waveform of each class, with at most one flip, at a tick of one's choice. Assumes nothing.
 use Rattle.std.specs.Prelude.{◌≡◌, ℕ, Bool, true, false, [], ◌∷◌, nat_le}
 use Rattle.std.proofs.Common.{sym, ⊎_elim, zero-le, le→leb}
+use Rattle.std.proofs.Math.Facts.{yes_and}
 use Rattle.signals.specs.Waveform.{Waveform, Rising, FlipsAt, constant}
-use Rattle.signals.proofs.Waveforms.{has_cases, from_both}
+use Rattle.signals.proofs.Waveforms.{has_cases}
 use Rattle.classes.specs.declared.class.Class.{Class}
 use Rattle.classes.specs.declared.class.Class.TheVariants.{C000, C111, C0R1, C1F0, C0X0, C0X1, C1X0, C1X1, C0XX, C1XX, CXX0, CXX1, CXXX}
 use Rattle.classes.specs.Class.{In}
@@ -28,7 +29,7 @@ sample CXX1 t = constant true
 sample CXXX t = constant false
 
 once_rises : (b : Bool) (t : ℕ) → Rising (once b t)
-once_rises b t = from_both (nat_le 0 t) true (le→leb 0 t zero-le) tt
+once_rises b t = yes_and (nat_le 0 t) true (le→leb 0 t zero-le) tt
 
 -- it lies in the class
 pub sample_in : (c : Class) (t : ℕ) → In c (sample c t)

@@ -15,7 +15,7 @@ use crate::source::OrderSource;
 use netlist::{Circuit, Net};
 use runs::row::INPUTS;
 use runs::{Bounds, Row};
-use separations::{SeparationFault, Separations};
+use separations::{Iter, SeparationFault, Separations};
 
 // Whether some number gives bounds at the row.
 fn is_bounded(row: &Row) -> bool
@@ -51,6 +51,13 @@ impl Spaced {
         ensures { result ≡ spacing_in a b (held_by self.now.held) }
     {
         self.held.get(a, b)
+    }
+
+    // The separations that are held, by rising a, then by rising b.
+    pub fn separations(&self) -> Iter<'_>
+        ensures { result ≡ held_by self.now.held }
+    {
+        self.held.iter()
     }
 
     // Whether the bounds that number j gives at one row agree with those that number i gives at another.

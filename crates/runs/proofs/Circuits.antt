@@ -2,7 +2,6 @@
 use Rattle.std.proofs.Common.{◌≡◌, ℕ, zero, suc, ◌+◌, ◌-◌, ◌<◌, ◌≤◌, true, false, T, ltb, leb, ◌⊎◌, List, [], ◌∷◌, length, get_or, Some, None, Option, Bor, sym, ap, ◌∙◌, subst, inl, inr, add-zero, arith, ltb→lt, leb→le}
 use Rattle.std.proofs.lemmas.List.{get_or_default, get_or-map, length-map}
 use Rattle.std.proofs.lemmas.Bool.{and_cases, and_parts, cases_lt, false_from_ne_true, leb-false, leb-true, ltb-false, ltb-true}
-use Rattle.signals.proofs.Waveforms.{both_parts}
 use Rattle.functions.specs.declared.function.Function.{Function}
 use Rattle.functions.specs.declared.function.Function.TheVariants.{Buf, Not, And, Nand, Or, Nor, Xor, Xnor}
 use Rattle.functions.specs.Function.{described, takes_pins}
@@ -13,20 +12,21 @@ use Rattle.runs.specs.Run.{gate_at}
 use Rattle.runs.specs.GateOf.{GateOf, has_gate}
 use Rattle.std.specs.Slice.{IsItemAt}
 use Rattle.std.specs.Option.{MatchOption}
+use Rattle.std.proofs.Math.Facts.{and_yes}
 
 -- each number of such a list is below the limit
 pub below_limit : (limit : ℕ) (ns : List ℕ) → T (all_below limit ns) → (k d : ℕ) → k < length ns → get_or ns k d < limit
 below_limit limit [] h k d l = omega arith
-below_limit limit (n ∷ ns) h zero d l = ltb→lt n limit (both_parts (ltb n limit) (all_below limit ns) h).0
-below_limit limit (n ∷ ns) h (suc k) d l = below_limit limit ns (both_parts (ltb n limit) (all_below limit ns) h).1 k d (omega arith)
+below_limit limit (n ∷ ns) h zero d l = ltb→lt n limit (and_yes (ltb n limit) (all_below limit ns) h).0
+below_limit limit (n ∷ ns) h (suc k) d l = below_limit limit ns (and_yes (ltb n limit) (all_below limit ns) h).1 k d (omega arith)
 
 -- the gate at place k is valid at its own net
 pub valid_at : (own : ℕ) (gs : List PlainGate) → T (valid_gates own gs) → (k : ℕ) (d : PlainGate) → k < length gs → T (valid_gate (own + k) (get_or gs k d))
 valid_at own [] h k d l = absurd (omega arith)
 valid_at own (g ∷ gs) h zero d l =
-    subst (λ (n : ℕ). T (valid_gate n g)) (sym (add-zero own)) (both_parts (valid_gate own g) (valid_gates (own + 1) gs) h).0
+    subst (λ (n : ℕ). T (valid_gate n g)) (sym (add-zero own)) (and_yes (valid_gate own g) (valid_gates (own + 1) gs) h).0
 valid_at own (g ∷ gs) h (suc k) d l =
-    subst (λ (n : ℕ). T (valid_gate n (get_or gs k d))) (omega arith) (valid_at (own + 1) gs (both_parts (valid_gate own g) (valid_gates (own + 1) gs) h).1 k d (omega arith))
+    subst (λ (n : ℕ). T (valid_gate n (get_or gs k d))) (omega arith) (valid_at (own + 1) gs (and_yes (valid_gate own g) (valid_gates (own + 1) gs) h).1 k d (omega arith))
 
 -- what validity says of a gate
 pub record GoodGate (own : ℕ) (g : PlainGate) : Type 0 where
@@ -37,7 +37,7 @@ pub record GoodGate (own : ℕ) (g : PlainGate) : Type 0 where
 
 pub good_gate : (own : ℕ) (g : PlainGate) → T (valid_gate own g) → GoodGate own g
 good_gate own g h =
-    let p = both_parts _ _ h in let q = both_parts _ _ p.0 in let r = both_parts _ _ q.0 in
+    let p = and_yes _ _ h in let q = and_yes _ _ p.0 in let r = and_yes _ _ q.0 in
     record {
       pin_count = r.0;
       lower = λ place l. below_limit own g.pins r.1 place 0 l;
@@ -48,7 +48,7 @@ good_gate own g h =
 -- every gate of a valid circuit
 pub gate_good : (c : PlainCircuit) → T (valid_circuit c) → (k : ℕ) → k < length c.gates → GoodGate (c.inputs + k) (gate_at c k)
 gate_good c h k l =
-    good_gate (c.inputs + k) (gate_at c k) (valid_at c.inputs c.gates (both_parts _ _ h).1 k _ l)
+    good_gate (c.inputs + k) (gate_at c k) (valid_at c.inputs c.gates (and_yes _ _ h).1 k _ l)
 
 -- the counts of a valid circuit
 pub record GoodCounts (c : PlainCircuit) : Type 0 where
@@ -58,7 +58,7 @@ pub record GoodCounts (c : PlainCircuit) : Type 0 where
 
 pub counts_good : (c : PlainCircuit) → T (valid_circuit c) → GoodCounts c
 counts_good c h =
-    let p = both_parts _ _ (both_parts _ _ h).0 in let q = both_parts _ _ p.0 in
+    let p = and_yes _ _ (and_yes _ _ h).0 in let q = and_yes _ _ p.0 in
     record { some_input = leb→le _ _ q.0; few_inputs = leb→le _ _ q.1; few_gates = leb→le _ _ p.1 }
 
 -- every function has one pin at least and eight at most
@@ -74,7 +74,7 @@ fewest_most Xnor = (omega arith, omega arith)
 
 pub pins_few : (f : Function) (n : ℕ) → T (takes_pins f n) → (1 ≤ n) × (n ≤ 8)
 pins_few f n h =
-    let p = both_parts (leb (described f).fewest n) (leb n (described f).most) h in
+    let p = and_yes (leb (described f).fewest n) (leb n (described f).most) h in
     let low = leb→le (described f).fewest n p.0 in
     let high = leb→le n (described f).most p.1 in
     let b = fewest_most f in
@@ -93,7 +93,7 @@ pub gate_valid : (c : PlainCircuit) → T (valid_circuit c) → (n : ℕ) → c.
 gate_valid c valid n l m =
     let e : c.inputs + (n - c.inputs) ≡ n = omega arith in
     subst (λ (own : ℕ). T (valid_gate own (gate_at c (n - c.inputs)))) e
-    (valid_at c.inputs c.gates (both_parts _ _ valid).1 (n - c.inputs) _ (omega arith))
+    (valid_at c.inputs c.gates (and_yes _ _ valid).1 (n - c.inputs) _ (omega arith))
 
 -- the test and the fact that a net has a gate
 pub driven : (c : PlainCircuit) (n : ℕ) → has_gate c n ≡ true → (c.inputs ≤ n) × (n < net_count c)

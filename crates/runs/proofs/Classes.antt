@@ -1,8 +1,9 @@
 -- Waveforms of clean and of constant classes: how often they flip. Assumes nothing.
 use Rattle.std.proofs.Common.{◌≡◌, ℕ, Bool, true, false, not, T, List, [], ◌∷◌, sym, refl, subst, inl, inr}
 use Rattle.std.proofs.lemmas.Bool.{false≢true}
+use Rattle.std.proofs.Math.Facts.{and_yes}
 use Rattle.signals.specs.Waveform.{Waveform, FlipsAt, has}
-use Rattle.signals.proofs.Waveforms.{both_parts, has_cases, has_here}
+use Rattle.signals.proofs.Waveforms.{has_cases, has_here}
 use Rattle.classes.specs.declared.class.Class.{Class}
 use Rattle.classes.specs.Class.{Middle, low, high, rise, fall, free, none, single, moves, described, In, constant_middle, clean_middle, is_constant, is_clean}
 
@@ -19,13 +20,13 @@ no_ticks (t ∷ ts) h = absurd h
 clean_single : (m : Middle) (w : Waveform) → T (moves m w) → clean_middle m ≡ true → T (single w.flips)
 clean_single low w h e = absurd (false≢true e)
 clean_single high w h e = absurd (false≢true e)
-clean_single rise w h e = (both_parts (not w.first) (single w.flips) h).1
-clean_single fall w h e = (both_parts w.first (single w.flips) h).1
+clean_single rise w h e = (and_yes (not w.first) (single w.flips) h).1
+clean_single fall w h e = (and_yes w.first (single w.flips) h).1
 clean_single free w h e = absurd (false≢true e)
 
 constant_none : (m : Middle) (w : Waveform) → T (moves m w) → constant_middle m ≡ true → T (none w.flips)
-constant_none low w h e = (both_parts (not w.first) (none w.flips) h).1
-constant_none high w h e = (both_parts w.first (none w.flips) h).1
+constant_none low w h e = (and_yes (not w.first) (none w.flips) h).1
+constant_none high w h e = (and_yes w.first (none w.flips) h).1
 constant_none rise w h e = absurd (false≢true e)
 constant_none fall w h e = absurd (false≢true e)
 constant_none free w h e = absurd (false≢true e)

@@ -5,7 +5,7 @@ ghost use Rattle.settling_theory.specs.Settled.{class_at, gate_class, pin_class,
 
 use crate::held_gate::HeldGate;
 use classes::Class;
-use narrowest::evaluate_classes;
+use narrowest::evaluate_narrowest;
 use runs::row::PINS;
 use std::array;
 
@@ -47,6 +47,6 @@ impl HeldGate<'_> {
         ensures { result ≡ gate_class self.now.at.below.now (plain_gate self.now.at.gate.now) self.now.held.now }
     {
         let classes = self.pin_classes();
-        evaluate_classes(self.at.gate.function, &classes[..self.at.pins()])
+        evaluate_narrowest(self.at.gate.function, &classes[..self.at.pins()])
     }
 }

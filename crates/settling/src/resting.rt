@@ -12,7 +12,7 @@ use crate::gate_at::GateAt;
 use crate::letter::Letter;
 use crate::tables::Tables;
 use classes::{Class, Three};
-use narrowest::evaluate_values;
+use narrowest::evaluate_narrowest;
 use netlist::{Circuit, Net};
 use runs::gate_of;
 use runs::row::{INPUTS, PINS};
@@ -40,7 +40,7 @@ fn gate_value(at: &GateAt<'_, Three>) -> Three
     ensures { result ≡ gate_value at.now.below.now (plain_gate at.now.gate.now) }
 {
     let pins = pin_values(at);
-    evaluate_values(at.gate.function, &pins[..at.pins()])
+    evaluate_narrowest(at.gate.function, &pins[..at.pins()])
 }
 
 // The value of net n from the values of the nets below it.

@@ -7,11 +7,8 @@ use Rattle.classes.specs.Class.{In}
 use Rattle.functions.specs.Function.{described}
 use Rattle.waveform.specs.Algebra.{evaluated}
 use Rattle.waveform.specs.Ops.{class_ops}
-use Rattle.waveform.specs.Narrowest.{Contains, Narrowest}
-use Rattle.waveform.specs.Contains.{evaluated_contains}
-use Rattle.waveform.specs.ClassSound.{class_sound}
-use Rattle.narrowest.proofs.Reaching.{narrowest_from}
-use Rattle.narrowest.proofs.Classes.{class_least}
+use Rattle.waveform.specs.Narrowest.{Narrowest}
+use Rattle.narrowest.specs.Classes.{class_narrowest}
 use Rattle.netlist.specs.Circuit.{PlainGate, PlainCircuit, valid_circuit, net_count}
 use Rattle.runs.specs.declared.row.Row.{Row}
 use Rattle.runs.specs.Run.{gate_at}
@@ -52,9 +49,7 @@ module _ (asks : Asks) (c : PlainCircuit) (classes : List Class) (valid : T (val
       (pin_classes (settled_to asks c classes m) (gate_at c k) (row_at (settled_to asks c classes m) (c.inputs + k)).held)
       (row_at (settled_to asks c classes m) (c.inputs + k)).class
   settled_narrowest m k a l =
-      narrowest_from In (described (gate_at c k).function).truth pins (evaluated class_ops (gate_at c k).function pins)
-      (row_at (settled_to asks c classes m) (c.inputs + k)).class (class_least (gate_at c k).function pins) same
-      (subst (Contains In (described (gate_at c k).function).truth pins) (sym same) (evaluated_contains class_ops In class_sound (gate_at c k).function pins))
+      subst (Narrowest In (described (gate_at c k).function).truth pins) (sym same) (class_narrowest (gate_at c k).function pins)
     where
       pins : List Class
       pins = pin_classes (settled_to asks c classes m) (gate_at c k) (row_at (settled_to asks c classes m) (c.inputs + k)).held

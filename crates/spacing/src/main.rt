@@ -37,12 +37,8 @@ fn main(rt: HostRuntime) -> io::Result<()> {
             .map(|Line { a, b, s }| Reply(source.separate(a, b, s)));
         println!(rt; "{}", Answer { number, outcome })?;
     }
-    for a in 0..16u8 {
-        for b in 0..16u8 {
-            if let Some(s) = source.spacing(a, b) {
-                println!(rt; "held {a} {b} {s}")?;
-            }
-        }
+    for (a, b, s) in source.separations() {
+        println!(rt; "held {a} {b} {s}")?;
     }
     Ok(())
 }
