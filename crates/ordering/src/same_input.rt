@@ -31,8 +31,8 @@ fn is_only_input(pair: Pair, i: usize) -> bool
     requires { i < 16 }
     ensures { result ≡ only_input (plain pair.entry.lent.circuit.now) pair.entry.lent.rows.now pair.entry.earlier.now pair.entry.later.now i }
 {
-    pair.lent.is_clean_input(i as Net)
-        && is_below(pair.earlier.bounds[i], pair.later.bounds[i])
+    is_below(pair.earlier.bounds[i], pair.later.bounds[i])
+        && pair.lent.is_clean_input(i as Net)
         && is_alone(pair, i)
 }
 
