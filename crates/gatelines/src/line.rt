@@ -1,5 +1,6 @@
 // A line as a gate: its words, its pins, and the class of its output.
-ghost use Rattle.std.specs.Prelude.{MatchResult};
+ghost use Rattle.std.specs.Prelude.{◌≡◌, ◌<◌, [], ◌∷◌, ◌++◌, length, MatchResult};
+ghost use Rattle.gatelines.specs.declared.fault.LineFault.TheVariants.{TooManyPins};
 ghost use Rattle.gatelines.specs.Line.{Classes, NoPins, Says};
 
 use crate::fault::LineFault;
@@ -9,22 +10,30 @@ use functions::Function;
 use waveform::evaluate;
 use words::Words;
 
+// Puts one more class behind the pins, if there is room.
+fn add(pins: &mut ArrayVec<Class, 8>, class: Class) -> Result<(), LineFault>
+    ensures { MatchResult result (λ _. (length pins.old.items < 8) × (pins.new.items ≡ pins.old.items ++ class ∷ [])) (λ e. (e ≡ TooManyPins) × (pins.new.items ≡ pins.old.items) × (length pins.old.items ≡ 8)) }
+{
+    match pins.try_push(class) {
+        Ok(()) => Ok(()),
+        Err(_) => Err(LineFault::TooManyPins),
+    }
+}
+
 // The classes that the words name. Each word has to be a class, also past the eight that a gate may have at most.
 fn read_pins(words: Words) -> Result<ArrayVec<Class, 8>, LineFault>
     ensures { MatchResult result (λ pins. Classes words.entry pins.items) (NoPins words.entry) }
 {
     let mut pins = ArrayVec::new();
-    let mut pushed = Ok(());
+    let mut added = Ok(());
     for word in words {
         let Ok(class) = word.parse::<Class>() else {
             return Err(LineFault::UnknownClass);
         };
-        pushed = pins.try_push(class);
+        added = add(&mut pins, class);
     }
-    match pushed {
-        Ok(()) => Ok(pins),
-        Err(_) => Err(LineFault::TooManyPins),
-    }
+    added?;
+    Ok(pins)
 }
 
 // The class of the output of the gate that the line describes, or what is wrong with the line. Words are separated by

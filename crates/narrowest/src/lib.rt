@@ -27,6 +27,13 @@ impl NarrowestAlgebra for Three {
     ghost narrowest = { three_narrowest };
 }
 
+// The pins folded by the function.
+fn folded<V: SwitchingAlgebra>(function: Function, pins: &[V]) -> V
+    ensures { result ≡ evaluated V.ops function pins.now }
+{
+    evaluate(function, pins)
+}
+
 // The narrowest value that contains every output of the function, without delay, for all waveforms that its pins stand for,
 // each pin's chosen freely; for any number of pins.
 pub fn evaluate_narrowest<V: NarrowestAlgebra>(function: Function, pins: &[V]) -> V
@@ -34,7 +41,7 @@ pub fn evaluate_narrowest<V: NarrowestAlgebra>(function: Function, pins: &[V]) -
     ensures narrowest { Narrowest V.stands (described function).truth pins.now result }
     ensures none_narrower { (u : V) → Narrower V.stands u result → Contains V.stands (described function).truth pins.now u → ⊥ }
 {
-    evaluate(function, pins)
+    folded(function, pins)
 }
 
 // Of classes, the narrower are just those that hold some, not all, of the waveforms.

@@ -1,7 +1,7 @@
 // Words of a text, one after the other.
 #![tactic(auto)]
 
-ghost use Rattle.std.specs.Prelude.{◌≡◌};
+ghost use Rattle.std.specs.Prelude.{◌≡◌, not, length, ◌==◌};
 ghost use Rattle.std.specs.Iterator.{YieldsFirstRef, item_count};
 ghost use Rattle.words.specs.Words.{words};
 
@@ -26,6 +26,13 @@ impl<'a> Model for Words<'a> {
     ghost invariant = { λ w. split_pattern w.parts ≡ 32 };
 }
 
+// Whether a part of a text is a word: it is not empty.
+fn is_word(part: &str) -> bool
+    ensures { result ≡ not (length part.now == 0) }
+{
+    !part.is_empty()
+}
+
 impl<'a> Words<'a> {
     // The words of this text.
     pub fn new(text: &'a str) -> Words<'a>
@@ -46,6 +53,6 @@ impl<'a> Iterator for Words<'a> {
 
     // The next part between spaces that is not empty.
     fn next(&mut self) -> Option<&'a str> {
-        self.parts.find(|part| !part.is_empty())
+        self.parts.find(|part| is_word(part))
     }
 }

@@ -8,6 +8,6 @@ pub returns : goal.returns
 returns g c =
     let f = c.args.function in
     let pins = c.args.pins.now in
-    let e = c.evaluate.ensures.fold in
+    let e = c.folded.ensures in
     let n = subst (Narrowest g.V.SwitchingAlgebra.stands (described f).truth pins) (sym e) (g.met.V.NarrowestAlgebra.narrowest f pins) in
     record { value = e; narrowest = n; none_narrower = λ u narrower contains. narrower.1 (n.least u contains) }

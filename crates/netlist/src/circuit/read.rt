@@ -1,5 +1,5 @@
 // Reading a circuit file, record after record.
-ghost use Rattle.std.specs.Prelude.{◌≡◌, true, false, length, None, vec_len, MatchResult, nat_le};
+ghost use Rattle.std.specs.Prelude.{◌≡◌, true, false, length, None, vec_len, MatchResult, nat_le, nat_lt};
 ghost use Rattle.std.specs.Option as Options;
 ghost use Rattle.functions.specs.Function.{described};
 ghost use Rattle.netlist.specs.Circuit.{all_below};
@@ -28,11 +28,18 @@ const MOST_GATES: u8 = 240;
 // the most pins that a gate may have
 const MOST_PINS: usize = 8;
 
+// Whether a pin is a net below the limit.
+fn is_below(pin: Net, limit: usize) -> bool
+    ensures { result ≡ nat_lt pin limit }
+{
+    usize::from(pin) < limit
+}
+
 // Whether every pin is a net below the limit.
 fn all_below(pins: &[Net], limit: usize) -> bool
     ensures { result ≡ all_below limit pins.now }
 {
-    pins.iter().all(|pin| usize::from(*pin) < limit)
+    pins.iter().all(|pin| is_below(*pin, limit))
 }
 
 // The function of this code for so many pins. The pin counts stand at the codes, since a wrong count and a wrong code are refused apart.

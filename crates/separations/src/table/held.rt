@@ -8,7 +8,7 @@ use super::{INPUTS, Separations};
 use std::marker::Model;
 
 // The separations that are held and were not given yet, seen as a list: what is left of row a, from column b on, and the
-// rows after it.
+// rows after it. A struct that counts a and b, since no function can give a chain of adapters, whose type has no name.
 #[derive(Drop)]
 pub struct Iter<'a> {
     a: u8,

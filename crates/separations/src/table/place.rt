@@ -1,6 +1,6 @@
 // Well-formed separations, and the table with one more.
 ghost use Rattle.std.specs.Prelude.{◌≡◌, ◌<◌, ◌≤◌, true, replicate, None, List, MatchResult};
-ghost use Rattle.separations.specs.Separations.{Separation as Held, placed};
+ghost use Rattle.separations.specs.Separations.{Separation as Held, larger_than, placed};
 ghost use Rattle.separations.specs.Answer.{Refused};
 ghost use Rattle.separations.specs.declared.fault.SeparationFault.TheVariants as fault;
 
@@ -36,6 +36,13 @@ impl Separation {
     }
 }
 
+// The larger of a spacing and that of a place, if it has one.
+fn larger_than(old: Option<i32>, s: i32) -> i32
+    ensures { result ≡ larger_than old s }
+{
+    old.map_or(s, |old| old.max(s))
+}
+
 impl Spacings {
     // The table without any spacing.
     pub(super) fn new() -> Spacings
@@ -52,7 +59,7 @@ impl Spacings {
     {
         let mut rows = self.rows;
         let (a, b) = (usize::from(new.a), usize::from(new.b));
-        rows[a][b] = Some(rows[a][b].map_or(new.s, |old| old.max(new.s)));
+        rows[a][b] = Some(larger_than(rows[a][b], new.s));
         Spacings { rows }
     }
 }

@@ -10,7 +10,7 @@ invariant_of-result c =
     let rows = c.args.self.now.rows in
     let new = c.args.new in
     let put : set rows c.from-a.result
-    (set (get_or rows c.from-a.result []) c.from-b.result (Some (to_z w32 (of_z w32 c.map_or.result))))
+    (set (get_or rows c.from-a.result []) c.from-b.result (Some (to_z w32 (of_z w32 c.larger_than.result))))
     ≡ placed rows new.a new.b new.s = search rules in
     record {
       full = subst (λ (table : Table). is_full table ≡ true) (sym put) (placed_full c.args.self.now new);
