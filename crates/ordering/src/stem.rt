@@ -96,6 +96,7 @@ fn may_tie_pins(lent: Lent, s: Net, row: &Row, pins: &[Net]) -> bool
     requires { (length pins.now ≤ 8) × (((k : ℕ) → k < length pins.now → slice_index pins.now k < length lent.rows.now)) }
     ensures { result ≡ false → all_tied None (live_ties lent.entry.rows.now (ties_below (plain lent.entry.circuit.now) lent.entry.rows.now s (row_count (plain lent.entry.circuit.now) lent.entry.rows.now)) row.now 0 pins.now) ≡ None }
 {
+    // a loop: of a chain, the check leaves open that its closure may be called at each place, and what its answer says
     for (k, &n) in pins.iter().enumerate() {
         if is_apart(lent.circuit, s, n) && is_live(lent.rows, row, k, n) {
             return false;
