@@ -18,12 +18,11 @@ use Rattle.classes.specs.Three as three
 use Rattle.classes.specs.Class.{Middle, low, high, rise, fall, free, moves, described, In}
 use Rattle.waveform.specs.Algebra.{disj, evaluated}
 use Rattle.waveform.specs.Ops.{class_ops}
-use Rattle.waveform.specs.Narrowest.{Contains, Narrowest}
+use Rattle.waveform.specs.Narrowest.{Narrowest}
 use Rattle.waveform.specs.Classes.{for_each}
-use Rattle.waveform.specs.Contains.{evaluated_contains}
 use Rattle.waveform.specs.ClassSound.{gives, given, inverted, swapped, class_sound}
 use Rattle.narrowest.specs.Finite.{gives_from, same_is, at_booleans, at_boolean, at_booleans_lem, at_some, at_some_lem, at_classes}
-use Rattle.narrowest.specs.Reaching.{Reaching, Next, Inverses, least}
+use Rattle.narrowest.specs.Reaching.{Reaching, Next, Inverses, narrowest_by}
 use Rattle.narrowest.specs.Shapes.{Amount, never, once, often, amount, Shaped, beyond, possible, made, made_shaped, amount_apart, apart_pointwise, apart_shaped}
 
 -- the same amount of flips
@@ -338,11 +337,6 @@ class_reaching =
       excl_reaches = step odd_ones class_ops.excl excl_covers;
     }
 
--- at the thirteen classes gate evaluation lies within each class that contains every output
-pub class_least : (f : Function) (pins : List Class) (u : Class) → Contains In (function.described f).truth pins u → (w : Waveform)
-    → In (evaluated class_ops f pins) w → In u w
-class_least f pins u all = least class_ops In class_reaching f pins u all
-
--- so it gives the narrowest class
+-- at the thirteen classes gate evaluation gives the narrowest
 pub class_narrowest : (f : Function) (pins : List Class) → Narrowest In (function.described f).truth pins (evaluated class_ops f pins)
-class_narrowest f pins = record { contains = evaluated_contains class_ops In class_sound f pins; least = class_least f pins }
+class_narrowest = narrowest_by class_ops In class_reaching class_sound

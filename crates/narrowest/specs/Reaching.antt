@@ -8,9 +8,9 @@ use Rattle.signals.specs.GateRule.{Pointwise, firsts, sampled}
 use Rattle.functions.specs.declared.function.Function.{Function}
 use Rattle.functions.specs.declared.function.Function.TheVariants.{Buf, Not, And, Nand, Or, Nor, Xor, Xnor}
 use Rattle.functions.specs.Function.{described, all_ones, some_one, odd_ones}
-use Rattle.waveform.specs.Algebra.{Ops, disj, folded_in, evaluated}
-use Rattle.waveform.specs.Narrowest.{Members, Contains}
-use Rattle.waveform.specs.Contains.{Joins, all_joins, some_joins, odd_joins}
+use Rattle.waveform.specs.Algebra.{Ops, Sound, disj, folded_in, evaluated}
+use Rattle.waveform.specs.Narrowest.{Members, Contains, Narrowest}
+use Rattle.waveform.specs.Contains.{Joins, evaluated_contains, all_joins, some_joins, odd_joins}
 use Rattle.waveform.specs.ClassSound.{inverted, at_inverted}
 
 -- the outputs of one more pin together with an earlier output
@@ -118,3 +118,7 @@ module _ {V : Type 0} (ops : Ops V) (stands : V → Waveform → Type 0) (reachi
   least Nor pins = inverse some_one false some_joins _ pins (disj_folds pins)
   least Xor pins = straight odd_ones false odd_joins _ pins (excl_folds pins)
   least Xnor pins = inverse odd_ones false odd_joins _ pins (excl_folds pins)
+
+  -- so where each result also contains every output, it is the narrowest value that does
+  pub narrowest_by : Sound ops stands → (f : Function) (pins : List V) → Narrowest stands (described f).truth pins (evaluated ops f pins)
+  narrowest_by sound f pins = record { contains = evaluated_contains ops stands sound f pins; least = least f pins }

@@ -14,12 +14,11 @@ use Rattle.functions.specs.Function.{all_ones, some_one, odd_ones}
 use Rattle.classes.specs.Three.{described, Stands}
 use Rattle.waveform.specs.Algebra.{disj, evaluated}
 use Rattle.waveform.specs.Ops.{three_ops}
-use Rattle.waveform.specs.Narrowest.{Contains, Narrowest}
-use Rattle.waveform.specs.Contains.{evaluated_contains}
+use Rattle.waveform.specs.Narrowest.{Narrowest}
 use Rattle.waveform.specs.ThreeSound.{three_sound}
 use Rattle.waveform.specs.ClassSound.{gives, given}
 use Rattle.narrowest.specs.Finite.{same_is, at_booleans, at_boolean, at_some, at_some_lem, at_values, at_value}
-use Rattle.narrowest.specs.Reaching.{Reaching, Next, Inverses, least}
+use Rattle.narrowest.specs.Reaching.{Reaching, Next, Inverses, narrowest_by}
 
 -- the constant of each Boolean that the value allows is among the outputs
 abbrev pub Reached : Three → (Waveform → Type 0) → Type 0
@@ -87,11 +86,6 @@ three_reaching =
       excl_reaches = step odd_ones three_ops.excl tt;
     }
 
--- at the three values gate evaluation lies within each value that contains every output
-pub three_least : (f : Function) (pins : List Three) (u : Three) → Contains Stands (function.described f).truth pins u → (w : Waveform)
-    → Stands (evaluated three_ops f pins) w → Stands u w
-three_least f pins u all = least three_ops Stands three_reaching f pins u all
-
--- so it gives the narrowest value
+-- at the three values gate evaluation gives the narrowest
 pub three_narrowest : (f : Function) (pins : List Three) → Narrowest Stands (function.described f).truth pins (evaluated three_ops f pins)
-three_narrowest f pins = record { contains = evaluated_contains three_ops Stands three_sound f pins; least = three_least f pins }
+three_narrowest = narrowest_by three_ops Stands three_reaching three_sound
