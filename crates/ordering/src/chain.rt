@@ -25,7 +25,7 @@ fn is_through<S: OrderSource>(source: &S, lent: Lent, q: Net, p: Net, m: Net) ->
 fn has_middle<S: OrderSource>(source: &S, lent: Lent, q: Net, p: Net) -> bool
     ensures { result ≡ some_below (through (S.OrderSource.says (S.OrderSource.held source.now) (plain lent.entry.circuit.now) lent.entry.rows.now) (plain lent.entry.circuit.now) lent.entry.rows.now q p) (row_count (plain lent.entry.circuit.now) lent.entry.rows.now) }
 {
-    // a source below orders no net that has no row
+    // a source below orders no net that has no row; `as` narrows a number below 256, and `try_from` would give a fault that never comes
     lent.has_row(q)
         && lent.has_row(p)
         && (0..lent.row_count()).any(|m| is_through(source, lent, q, p, m as Net))

@@ -8,8 +8,7 @@ ghost use Rattle.ordering.specs.Samples.{sample, sample_in};
 use crate::source::OrderSource;
 use netlist::{Circuit, Net};
 use runs::Row;
-use runs::row::INPUTS;
-use separations::SeparationFault;
+use separations::{SeparationFault, input};
 
 pub trait FromRows: Sized {
     // the answers, worked out from the circuit and the rows
@@ -44,12 +43,9 @@ impl<R: FromRows> OrderSource for R {
     fn clear(&mut self) {}
 
     fn separate(&mut self, a: Net, b: Net, _s: i32) -> Result<(), SeparationFault> {
-        Err(
-            [a, b]
-                .into_iter()
-                .find(|n| usize::from(*n) >= INPUTS)
-                .map_or(SeparationFault::NotTaken, SeparationFault::NoSuchInput),
-        )
+        let _first = input(a)?;
+        let _second = input(b)?;
+        Err(SeparationFault::NotTaken)
     }
 
     fn before(&self, circuit: &Circuit, rows: &[Row], q: Net, p: Net) -> bool {

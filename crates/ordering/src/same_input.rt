@@ -31,6 +31,7 @@ fn is_only_input(pair: Pair, i: usize) -> bool
     requires { i < 16 }
     ensures { result ≡ only_input (plain pair.entry.lent.circuit.now) pair.entry.lent.rows.now pair.entry.earlier.now pair.entry.later.now i }
 {
+    // `as` narrows a number below 16; `try_from` would give a fault that never comes
     is_below(pair.earlier.bounds[i], pair.later.bounds[i])
         && pair.lent.is_clean_input(i as Net)
         && is_alone(pair, i)

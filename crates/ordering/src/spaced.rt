@@ -76,6 +76,7 @@ impl Spaced {
         requires { (j < 16) × (i < 16) }
         ensures { result ≡ agrees (held_by self.now.held) (plain pair.entry.lent.circuit.now) pair.entry.lent.rows.now pair.entry.earlier.now pair.entry.later.now j i }
     {
+        // `as` narrows numbers below 16; `try_from` would give a fault that never comes
         self.is_agreed(
             pair.lent,
             j as Net,

@@ -2,7 +2,8 @@
 ghost use Rattle.std.specs.Prelude.{◌≡◌, ◌^◌, ◌<◌, ◌≤◌, ℤ, pos, ◌≤ℤ◌, Some, Decides};
 ghost use Rattle.separations.specs.Check.{raised, Moderate, latest, passed, times_after};
 
-use crate::table::{INPUTS, Spacings};
+use crate::inputs::INPUTS;
+use crate::table::Spacings;
 use std::array;
 
 // A time for each input, far below what a sum in 64 bits holds.
@@ -47,6 +48,7 @@ impl Spacings {
         ensures { result.at ≡ times_after self.now.rows 16 }
     {
         let mut at = [0; INPUTS];
+        // one step again and again: no index is used
         for _ in 0..INPUTS {
             at = self.pass(&Times { at });
         }

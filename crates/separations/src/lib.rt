@@ -4,7 +4,9 @@
 mod check;
 pub mod examples;
 pub mod fault;
+pub mod inputs;
 pub mod table;
 
 pub use fault::SeparationFault;
+pub use inputs::input;
 pub use table::{Iter, Separations};

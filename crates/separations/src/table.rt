@@ -8,10 +8,8 @@ mod held;
 mod hold;
 mod place;
 
+use crate::inputs::INPUTS;
 pub use held::Iter;
-
-// How many inputs a circuit may have. The number stands here once more, since this crate knows of no circuits.
-pub(crate) const INPUTS: usize = 16;
 
 // A well-formed separation of two inputs: every flip of b comes at least s ticks after every flip of a.
 #[derive(Clone, Copy)]

@@ -68,7 +68,7 @@ fn value_of(circuit: &Circuit, classes: &[Class; INPUTS], letter: Letter, net: N
     requires { net < net_count (plain circuit.now) }
     ensures { result ≡ value_at (values_to (input_letter letter classes.now) (plain circuit.now) (net_count (plain circuit.now))) net }
 {
-    // each value is worked out from those before it, so the array is filled in rising order
+    // each value is worked out from those before it, so the array is filled in rising order; `as` narrows a number up to `net`
     let mut values = [Three::Unknown; NETS];
     let last = usize::from(net);
     for n in 0..last + 1 {

@@ -4,7 +4,8 @@ ghost use Rattle.std.specs.Iterator.{YieldsFirstBy, item_count};
 ghost use Rattle.separations.specs.Separations.{separation};
 ghost use Rattle.separations.specs.Holding.{held_by};
 
-use super::{INPUTS, Separations};
+use super::Separations;
+use crate::inputs::INPUTS;
 use std::marker::Model;
 
 // The separations that are held and were not given yet, seen as a list: what is left of row a, from column b on, and the

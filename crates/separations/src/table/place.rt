@@ -2,24 +2,13 @@
 ghost use Rattle.std.specs.Prelude.{◌≡◌, ◌<◌, ◌≤◌, true, replicate, None, List, MatchResult};
 ghost use Rattle.separations.specs.Separations.{Separation as Held, larger_than, placed};
 ghost use Rattle.separations.specs.Answer.{Refused};
-ghost use Rattle.separations.specs.declared.fault.SeparationFault.TheVariants as fault;
 
-use super::{INPUTS, Separation, Spacings};
+use super::{Separation, Spacings};
 use crate::fault::SeparationFault;
+use crate::inputs::{INPUTS, input};
 
 // The largest spacing, and the smallest without its sign.
 const LIMIT: i32 = 65_535;
-
-// The number, if it is an input's.
-fn input(number: u8) -> Result<u8, SeparationFault>
-    ensures { MatchResult result (λ n. (n ≡ number) × (number ≤ 15)) (λ e. (e ≡ fault.NoSuchInput number) × (15 < number)) }
-{
-    if usize::from(number) < INPUTS {
-        Ok(number)
-    } else {
-        Err(SeparationFault::NoSuchInput(number))
-    }
-}
 
 impl Separation {
     // The separation (a, b, s), if it is one of two inputs and well formed.
