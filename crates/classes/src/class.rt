@@ -22,7 +22,7 @@ pub enum Class {
     C1XX,
     CXX0,
     CXX1,
-    // every waveform
+    // every waveform: what a vector of classes with a fixed size is filled with
     #[default]
     CXXX,
 }

@@ -10,23 +10,24 @@ use functions::Function;
 use waveform::evaluate;
 use words::Words;
 
+// the most pins that a gate has
+const PINS: usize = 8;
+
 // Puts one more class behind the pins, if there is room.
-fn add(pins: &mut ArrayVec<Class, 8>, class: Class) -> Result<(), LineFault>
+fn add(pins: &mut ArrayVec<Class, PINS>, class: Class) -> Result<(), LineFault>
     ensures { MatchResult result (λ _. (length pins.old.items < 8) × (pins.new.items ≡ pins.old.items ++ class ∷ [])) (λ e. (e ≡ TooManyPins) × (pins.new.items ≡ pins.old.items) × (length pins.old.items ≡ 8)) }
 {
-    match pins.try_push(class) {
-        Ok(()) => Ok(()),
-        Err(_) => Err(LineFault::TooManyPins),
-    }
+    pins.try_push(class).map_err(|_| LineFault::TooManyPins)
 }
 
 // The classes that the words name. Each word has to be a class, also past the eight that a gate may have at most.
-fn read_pins(words: Words) -> Result<ArrayVec<Class, 8>, LineFault>
+fn read_pins(words: Words) -> Result<ArrayVec<Class, PINS>, LineFault>
     ensures { MatchResult result (λ pins. Classes words.entry pins.items) (NoPins words.entry) }
 {
     let mut pins = ArrayVec::new();
     let mut added = Ok(());
     for word in words {
+        // a `let else` is no longer than `map_err` and `?`, and what it leaves to prove is less
         let Ok(class) = word.parse::<Class>() else {
             return Err(LineFault::UnknownClass);
         };

@@ -1,4 +1,4 @@
--- At the thirteen classes gate evaluation lies within each class that contains every output. Assumes nothing.
+-- At the thirteen classes gate evaluation gives the narrowest class that contains every output. Assumes nothing.
 use mathlib.Core.Path.{◌≡◌, refl, sym, ap, subst, subst₃, ◌∙◌}
 use mathlib.Core.Bool.{Bool, true, false, not, ◌&&◌}
 use mathlib.Core.List.{List, [], ◌∷◌}

@@ -53,6 +53,6 @@ at_value p h Zero = (and_yes (p Zero) _ h).0
 at_value p h One = (and_yes (p One) _ (and_yes (p Zero) _ h).1).0
 at_value p h Unknown = (and_yes (p One) _ (and_yes (p Zero) _ h).1).1
 
--- a test at all thirteen classes, read by `for-each`
+-- a test at all thirteen classes, read by `for_each`
 abbrev pub at_classes : (Class → Bool) → Bool
 at_classes p = every p classes

@@ -1,4 +1,4 @@
--- At the three values gate evaluation lies within each value that contains every output. Assumes nothing.
+-- At the three values gate evaluation gives the narrowest value that contains every output. Assumes nothing.
 use mathlib.Core.Path.{◌≡◌, refl, sym, ap}
 use mathlib.Core.Bool.{Bool, true, false, not, ◌&&◌}
 use mathlib.Core.List.{List, [], ◌∷◌}

@@ -1,7 +1,7 @@
 // The kinds of records in a file.
 ghost use Rattle.netlist.specs.Kind.{Decodes};
 
-// A kind of record. One more kind is a variant here, an arm below and a number in the definition.
+// A kind of record, by the number that a file has for it.
 #[derive(Clone, Copy, Debug, PartialEq, Eq)]
 pub enum Kind {
     Head,

@@ -9,4 +9,4 @@ pub mod kind;
 pub use circuit::Circuit;
 pub use fault::CircuitFault;
 pub use gate::{Gate, Net};
-pub use kind::Kind;
+pub use kind::{Kind, UnknownKind};

@@ -11,7 +11,8 @@ pub struct Reader<'a> {
     ghost within: { at ≤ length bytes.now },
 }
 
-// one record: its place, its kind, and its payload as a part of the bytes
+// one record: its place, its kind as the number in the file (which kinds there are is for the circuit to say), and its
+// payload as a part of the bytes
 #[derive(Drop)]
 pub struct Record<'a> {
     pub place: usize,

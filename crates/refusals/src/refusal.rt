@@ -1,5 +1,5 @@
 // A refusal and the layers that refuse, each with its text.
-ghost use Rattle.std.specs.Prelude.{[], ◌∷◌, Some};
+ghost use Rattle.std.specs.Prelude.{◌≡◌, [], ◌∷◌, Some};
 ghost use Rattle.refusals.specs.Layer.{letter};
 ghost use Rattle.refusals.specs.Refusal.{refusal_text};
 
@@ -18,16 +18,24 @@ pub enum Layer {
     Source,
 }
 
+impl Layer {
+    pub fn letter(self) -> char
+        ensures { result ≡ letter self }
+    {
+        match self {
+            Layer::Reader => 'R',
+            Layer::Circuit => 'C',
+            Layer::Bench => 'B',
+            Layer::Source => 'S',
+        }
+    }
+}
+
 impl fmt::Display for Layer {
     ghost output = { λ l. Some (letter l ∷ []) };
 
     fn fmt<W: fmt::Write>(&self, f: &mut fmt::Formatter<W>) -> fmt::Result {
-        match self {
-            Layer::Reader => write!(f, "R"),
-            Layer::Circuit => write!(f, "C"),
-            Layer::Bench => write!(f, "B"),
-            Layer::Source => write!(f, "S"),
-        }
+        f.write_char(self.letter())
     }
 }
 

@@ -24,7 +24,7 @@ fn raise(spacing: Option<i32>, from: u64, time: u64) -> u64
 }
 
 impl Spacings {
-    // The time of input b after one pass.
+    // The time of input b after one pass; b is asked to be below 16 as an index is asked to be in range.
     fn time_after(&self, times: &Times, b: usize) -> u64
         requires { b < 16 }
         ensures { result ≡ latest self.now.rows times.now.at b 16 }

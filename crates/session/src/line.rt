@@ -9,7 +9,7 @@ use refusals::Refusal;
 use std::alloc::{AllocError, Global};
 use std::fmt;
 
-// One line of output. An enum and no Result: a refusal is printed as a line like the others, and more kinds of lines will stand beside these.
+// One line of output. An enum and no Result, since a refusal is printed as a line like the others.
 #[derive(Clone, Copy, Debug, PartialEq, Eq)]
 pub enum Line {
     // the circuit that was read: its inputs, its gates, and the bytes that it used

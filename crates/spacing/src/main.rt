@@ -4,6 +4,9 @@
 // by rising second input. Bytes that are no text are read as a character that no number has.
 #![tactic(auto)]
 
+ghost use Rattle.std.specs.Prelude.{Some};
+ghost use Rattle.spacing.specs.Reply.{reply_text};
+
 use answers::Answer;
 use ordering::{OrderSource, Spaced};
 use separations::SeparationFault;
@@ -16,6 +19,8 @@ use std::{fmt, io};
 struct Reply(Result<(), SeparationFault>);
 
 impl fmt::Display for Reply {
+    ghost output = { λ r. Some (reply_text r.0) };
+
     fn fmt<W: fmt::Write>(&self, f: &mut fmt::Formatter<W>) -> fmt::Result {
         match self.0 {
             Ok(()) => write!(f, "ok"),
@@ -24,8 +29,8 @@ impl fmt::Display for Reply {
     }
 }
 
-// The loop stands in each program that answers lines: a function that takes what is done with a line would have to ask of its
-// caller that it may be called.
+// The loop stands in each program that answers lines: no public function here has a `requires`, and one that takes what is done
+// with a line as a closure would need one.
 fn main(rt: HostRuntime) -> io::Result<()> {
     let mut bytes = Vec::new(rt.alloc());
     let _ = rt.stdin().read_to_end(&mut bytes)?;

@@ -17,8 +17,8 @@ fn unit<V: SwitchingAlgebra>(function: Function) -> V
     }
 }
 
-// One more pin. The function is matched at each pin: an operation chosen before the loop would be a closure of another type for
-// each, and the loop would stand once for each.
+// One more pin. The function is matched at each pin: an operation chosen before the loop would be a function pointer, and what it
+// computes would have to be carried through the loop in words of its own.
 fn fold_in<V: SwitchingAlgebra>(function: Function, value: V, pin: V) -> V
     ensures { result ≡ joined V.ops function value pin }
 {

@@ -42,7 +42,8 @@ fn all_below(pins: &[Net], limit: usize) -> bool
     pins.iter().all(|pin| is_below(*pin, limit))
 }
 
-// The function of this code for so many pins. The pin counts stand at the codes, since a wrong count and a wrong code are refused apart.
+// The function of this code for so many pins. The pin counts stand at the codes, since a wrong count and a wrong code are
+// refused apart.
 fn function_of(place: usize, code: u8, pins: usize) -> Result<Function, CircuitFault>
     ensures { MatchResult result (λ f. ((described f).code ≡ code) × (nat_le code 7 ≡ true) × (count_due code pins ≡ true)) (λ e. FunctionFault e place code pins) }
 {
@@ -69,7 +70,8 @@ struct GateFields<'a> {
     pins: &'a [Net],
 }
 
-// The fields of a gate's payload, or none if it has no byte for a pin or too many. Each byte has a name, so that none is read by an index.
+// The fields of a gate's payload, or none if it has no byte for a pin or too many. Each byte has a name, so that none is read
+// by an index.
 fn fields(payload: &[u8]) -> Option<GateFields<'_>>
     ensures { Options.MatchOption result (size_due (gate 0) (length payload.now) ≡ false) (λ f. FieldsOf payload.now f) }
 {

@@ -9,8 +9,8 @@ use crate::reader::{Reader, Record};
 const HEAD: usize = 4;
 
 impl<'a> Reader<'a> {
-    // The next record; a record that is cut short leaves the reader as it was. Not an iterator's `next`: where no byte is left, the
-    // record that is due there is cut short, and that is no end.
+    // The next record; a record that is cut short leaves the reader as it was. It is not the `next` of an iterator: where no
+    // byte is left, the record that is due there is cut short.
     pub fn next(&mut self) -> Result<Record<'a>, RecordFault>
         ensures { MatchResult result (λ rec. Taken self.old self.new rec) (λ e. Cut self.old self.new e) }
     {

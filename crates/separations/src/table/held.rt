@@ -9,7 +9,7 @@ use crate::inputs::INPUTS;
 use std::marker::Model;
 
 // The separations that are held and were not given yet, seen as a list: what is left of row a, from column b on, and the
-// rows after it. A struct that counts a and b, since no function can give a chain of adapters, whose type has no name.
+// rows after it. Row and column are counted here: `enumerate` would give them as `usize`, to be narrowed at each item.
 #[derive(Drop)]
 pub struct Iter<'a> {
     a: u8,
