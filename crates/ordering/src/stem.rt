@@ -1,23 +1,21 @@
 // A stem layer: over a source below, it also orders two nets that are tied to one clean net, their stem.
-ghost use Rattle.std.specs.Prelude.{◌≡◌, ℕ, ◌+◌, ◌-◌, ◌*◌, ◌<◌, ◌≤◌, false, cond, T, [], ◌∷◌, length, replicate, Some, None, slice_index, slice_index_or};
+ghost use Rattle.std.specs.Prelude.{◌≡◌, ℕ, ◌+◌, ◌-◌, ◌*◌, ◌<◌, ◌≤◌, false, cond, T, [], ◌∷◌, length, replicate, None, slice_index, slice_index_or};
 ghost use Rattle.netlist.specs.Circuit.{valid_gate};
 ghost use Rattle.netlist.specs.Plain.{plain_gate};
 ghost use Rattle.netlist.specs.View.{plain};
 ghost use Rattle.ordering.specs.Rows.{below, has_row, row_count, some_below};
 ghost use Rattle.ordering.specs.Stem.{all_tied, live_pin, live_ties, tie_of, ties_below, tie, tied_apart, stemmed};
 ghost use Rattle.ordering.specs.TieTable.{AtMost, SmallBelow, is_apart};
-ghost use Rattle.runs.specs.Gathered.{delayed, joined};
+ghost use Rattle.runs.specs.Gathered.{delayed};
 ghost use Rattle.ordering.specs.StemLaws.{stem_first, stem_third};
 ghost use Rattle.std.proofs.Common.{rules};
 
 use crate::rows::{Lent, is_below};
 use crate::source::OrderSource;
 use netlist::{Circuit, Gate, Net};
-use runs::{Bounds, Row, gate_of};
+use runs::row::NETS;
+use runs::{Bounds, Row, gate_of, join_bounds};
 use separations::SeparationFault;
-
-// The most nets that a circuit has.
-const NETS: usize = 256;
 
 // Whether the pin at place k, on net n, of a gate with this row is live.
 fn is_live(rows: &[Row], row: &Row, k: usize, n: Net) -> bool
@@ -25,13 +23,6 @@ fn is_live(rows: &[Row], row: &Row, k: usize, n: Net) -> bool
     ensures { result ≡ live_pin rows.now row.now k n }
 {
     row.held[k].is_none() && !rows[usize::from(n)].class.is_constant()
-}
-
-// The bounds so far, if any, joined with those of one more net.
-fn joined_with(all: Option<Bounds>, tie: Bounds) -> Bounds
-    ensures { Some result ≡ joined all (Some tie) }
-{
-    all.map_or(tie, |all| all.join(tie))
 }
 
 // The bounds of all live pins, or none if there is none or one of them is not tied.
@@ -43,7 +34,7 @@ fn join(rows: &[Row], ties: &[Option<Bounds>; NETS], row: &Row, pins: &[Net]) ->
     for (k, &n) in pins.iter().enumerate() {
         if is_live(rows, row, k, n) {
             let tie = ties[usize::from(n)]?;
-            all = Some(joined_with(all, tie));
+            all = join_bounds(all, Some(tie));
         }
     }
     all

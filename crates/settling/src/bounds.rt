@@ -1,26 +1,16 @@
 // The bounds of a gate's net: the least delay and the smallest lo, the greatest delay and the largest hi, over the pins that are not held.
 ghost use Rattle.std.specs.Prelude.{◌≡◌, ◌+◌, ◌*◌, ◌<◌, ◌≤◌, length};
 ghost use Rattle.netlist.specs.Plain.{plain_gate};
-ghost use Rattle.runs.specs.Gathered.{delayed, from_place, gathered, joined, unless_held};
+ghost use Rattle.runs.specs.Gathered.{delayed, from_place, gathered, unless_held};
 ghost use Rattle.ordering.specs.TieTable.{AtMost};
 ghost use Rattle.settling_theory.specs.Settled.{gate_bounds, listed};
 
 use crate::held_gate::HeldGate;
 use classes::Class;
 use netlist::Gate;
-use runs::Bounds;
 use runs::row::INPUTS;
+use runs::{Bounds, join_bounds};
 use std::array;
-
-// The narrowest bounds that contain both.
-fn join(one: Option<Bounds>, other: Option<Bounds>) -> Option<Bounds>
-    ensures { result ≡ joined one other }
-{
-    match (one, other) {
-        (Some(x), Some(y)) => Some(x.join(y)),
-        _ => one.or(other),
-    }
-}
 
 // The bounds of a pin that is not held.
 fn unless_held(held: Option<bool>, bounds: Option<Bounds>) -> Option<Bounds>
@@ -63,7 +53,10 @@ impl HeldGate<'_> {
         requires { i < 16 }
         ensures { result ≡ gathered (from_place self.now.at.below.now i (plain_gate self.now.at.gate.now) self.now.held.now) (length (plain_gate self.now.at.gate.now).pins) }
     {
-        (0..self.at.pins()).fold(None, |all, place| join(all, self.from_place(i, place)))
+        (0..self.at.pins()).fold(
+            None,
+            |all, place| join_bounds(all, self.from_place(i, place)),
+        )
     }
 
     // The bounds from input i, or none if the class is constant.

@@ -15,11 +15,8 @@ use classes::{Class, Three};
 use narrowest::evaluate_narrowest;
 use netlist::{Circuit, Net};
 use runs::gate_of;
-use runs::row::{INPUTS, PINS};
+use runs::row::{INPUTS, NETS, PINS};
 use std::array;
-
-// the most nets that a circuit has
-const NETS: usize = 256;
 
 // The value of the net at each pin; past the pins, unknown. Classes have `pin_classes`, which differs in what it asks of each place:
 // one function for both would take that as a closure, and be no shorter.
