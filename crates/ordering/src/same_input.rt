@@ -55,14 +55,6 @@ impl FromRows for SameInput {
     ghost rowed = { same_input_third };
 
     fn tells(&self, circuit: &Circuit, rows: &[Row], q: Net, p: Net) -> bool {
-        let lent = Lent { circuit, rows };
-        let (Some(earlier), Some(later)) = (lent.row(q), lent.row(p)) else {
-            return false;
-        };
-        has_only_input(Pair {
-            lent,
-            earlier,
-            later,
-        })
+        Pair::of(Lent { circuit, rows }, q, p).is_some_and(has_only_input)
     }
 }

@@ -128,16 +128,9 @@ impl OrderSource for Spaced {
     }
 
     fn before(&self, circuit: &Circuit, rows: &[Row], q: Net, p: Net) -> bool {
-        let lent = Lent { circuit, rows };
-        let (Some(earlier), Some(later)) = (lent.row(q), lent.row(p)) else {
+        let Some(pair) = Pair::of(Lent { circuit, rows }, q, p) else {
             return false;
         };
-        is_bounded(earlier)
-            && is_bounded(later)
-            && self.are_agreeing(Pair {
-                lent,
-                earlier,
-                later,
-            })
+        is_bounded(pair.earlier) && is_bounded(pair.later) && self.are_agreeing(pair)
     }
 }
