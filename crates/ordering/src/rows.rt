@@ -41,14 +41,14 @@ impl<'a> Lent<'a> {
     pub(crate) fn can_move(self, n: Net) -> bool
         ensures { result ≡ can_move (plain self.entry.circuit.now) self.entry.rows.now n }
     {
-        self.has_row(n) && !self.rows[usize::from(n)].class.is_constant()
+        self.row(n).is_some_and(|row| !row.class.is_constant())
     }
 
     // Whether the net has a row and its class is clean.
     pub(crate) fn is_clean(self, n: Net) -> bool
         ensures { result ≡ clean_net (plain self.entry.circuit.now) self.entry.rows.now n }
     {
-        // an index, and no closure over the row: a search asks this of every net, and was slower by a fifth
+        // written by index: with a closure the searches that ask this of every net took a fifth longer
         self.has_row(n) && self.rows[usize::from(n)].class.is_clean()
     }
 

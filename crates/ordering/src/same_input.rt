@@ -11,7 +11,8 @@ use netlist::{Circuit, Net};
 use runs::Row;
 use runs::row::INPUTS;
 
-// Whether number j is i, or gives no bounds at either row.
+// Whether number j is i, or gives no bounds at either row. Numbers are asked to be below 16, as an index is asked to be in range: a
+// type of such numbers would have to be opened at each use.
 fn is_none_but(pair: Pair, i: usize, j: usize) -> bool
     requires { j < 16 }
     ensures { result ≡ none_but i pair.entry.earlier.now pair.entry.later.now j }

@@ -71,7 +71,8 @@ impl Spaced {
         }
     }
 
-    // Whether number j at the earlier row agrees with number i at the later.
+    // Whether number j at the earlier row agrees with number i at the later. Numbers are asked to be below 16, as an index is asked to
+    // be in range: a type of such numbers would have to be opened at each use.
     fn is_agreeing(&self, pair: Pair, j: usize, i: usize) -> bool
         requires { (j < 16) × (i < 16) }
         ensures { result ≡ agrees (held_by self.now.held) (plain pair.entry.lent.circuit.now) pair.entry.lent.rows.now pair.entry.earlier.now pair.entry.later.now j i }

@@ -87,7 +87,7 @@ fn may_tie_pins(lent: Lent, s: Net, row: &Row, pins: &[Net]) -> bool
     requires { (length pins.now ≤ 8) × (((k : ℕ) → k < length pins.now → slice_index pins.now k < length lent.rows.now)) }
     ensures { result ≡ false → all_tied None (live_ties lent.entry.rows.now (ties_below (plain lent.entry.circuit.now) lent.entry.rows.now s (row_count (plain lent.entry.circuit.now) lent.entry.rows.now)) row.now 0 pins.now) ≡ None }
 {
-    // a loop: of a chain, the check leaves open that its closure may be called at each place, and what its answer says
+    // a loop: with a chain the check does not find that its closure may be called at each place
     for (k, &n) in pins.iter().enumerate() {
         if is_apart(lent.circuit, s, n) && is_live(lent.rows, row, k, n) {
             return false;
@@ -134,7 +134,8 @@ fn ties_to(lent: Lent, s: Net, top: Net) -> [Option<Bounds>; NETS]
     ties
 }
 
-// Whether q and p are tied to net s, the greatest of q below the least of p.
+// Whether q and p are tied to net s, the greatest of q below the least of p. The three stay numbers of their own, as q and p are each
+// asked with s.
 fn ties_apart(lent: Lent, q: Net, p: Net, s: Net) -> bool
     ensures { result ≡ below (tie (plain lent.entry.circuit.now) lent.entry.rows.now s q) (tie (plain lent.entry.circuit.now) lent.entry.rows.now s p) }
 {
@@ -161,8 +162,8 @@ pub struct Stem<S> {
     pub below: S,
 }
 
-// The other layer passes the same on to its source below. One impl for both would stand beside that of `FromRows`, and two impls for every
-// type overlap.
+// The other layer passes the same on to its source below: one impl for both would overlap that of `FromRows`, and one struct over a
+// source and a rule would make one type of the two layers.
 impl<S: OrderSource> OrderSource for Stem<S> {
     ghost TAKES = { S.OrderSource.TAKES };
 
