@@ -28,8 +28,8 @@ fn later(tick: u32, delay: u16) -> u32
     tick + u32::from(delay)
 }
 
-// The bounds after the gate's delay. `tie_behind` of the stem layer adds the same: one function for both would be public in `runs`, and
-// would have to ask that the sums fit, which no public function asks.
+// The bounds after the gate's delay. `tie_behind` of the stem layer adds the same: one function for both would be public in
+// `runs`, and would have to ask that the sums fit, which no public function asks.
 fn delay(gate: &Gate, bounds: Option<Bounds>) -> Option<Bounds>
     requires { AtMost (65535 * 255) bounds }
     ensures { result ≡ delayed (plain_gate gate.now) bounds }
@@ -41,8 +41,8 @@ fn delay(gate: &Gate, bounds: Option<Bounds>) -> Option<Bounds>
 }
 
 impl HeldGate<'_> {
-    // What one pin place gives from input i: the bounds of its net after the gate's delay, unless the place is held. Number i is asked
-    // to be below 16, as an index is asked to be in range: a type of such numbers would have to be opened at each use.
+    // What one pin place gives from input i: the bounds of its net after the gate's delay, unless the place is held. Number i is
+    // asked to be below 16, as an index is asked to be in range: a type of such numbers would have to be opened at each use.
     fn from_place(&self, i: usize, place: usize) -> Option<Bounds>
         requires { (i < 16) × (place < length (plain_gate self.now.at.gate.now).pins) }
         ensures { result ≡ from_place self.now.at.below.now i (plain_gate self.now.at.gate.now) self.now.held.now place }

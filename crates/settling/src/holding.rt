@@ -15,7 +15,8 @@ use runs::Row;
 use runs::row::PINS;
 use std::array;
 
-// The value that a letter fixes, if it is 0 or 1. Written here, where its definition stands: to `classes` X is a value like the others.
+// The value that a letter fixes, if it is 0 or 1. Written here, where its definition stands: to `classes` X is a value like the
+// others.
 fn fixed_by(letter: Three) -> Option<bool>
     ensures { result ≡ fixed_by letter }
 {
@@ -90,8 +91,8 @@ impl<S: OrderSource> Pin<'_, S> {
     }
 }
 
-// The value at which a place is held; no pin, or a gate without a control value: none. Source, circuit and gate come one by one: they
-// go into a `Pin` once there is a place that is a pin.
+// The value at which a place is held; no pin, or a gate without a control value: none. Source, circuit and gate come one by one,
+// here and in `held_pins`: they go into a `Pin` where there is a place that is a pin.
 fn held_pin<S: OrderSource>(
     source: &S,
     circuit: &Circuit,
