@@ -12,7 +12,8 @@ use netlist::{Circuit, Net};
 use runs::Row;
 use separations::SeparationFault;
 
-// Whether net m is clean, and the source says q before m and m before p.
+// Whether net m is clean, and the source says q before m and m before p. The three stay numbers of their own, as they are asked in
+// two pairs: q with m, and m with p.
 fn is_through<S: OrderSource>(source: &S, lent: Lent, q: Net, p: Net, m: Net) -> bool
     ensures { result ≡ through (S.OrderSource.says (S.OrderSource.held source.now) (plain lent.entry.circuit.now) lent.entry.rows.now) (plain lent.entry.circuit.now) lent.entry.rows.now q p m }
 {
@@ -25,7 +26,8 @@ fn is_through<S: OrderSource>(source: &S, lent: Lent, q: Net, p: Net, m: Net) ->
 fn has_middle<S: OrderSource>(source: &S, lent: Lent, q: Net, p: Net) -> bool
     ensures { result ≡ some_below (through (S.OrderSource.says (S.OrderSource.held source.now) (plain lent.entry.circuit.now) lent.entry.rows.now) (plain lent.entry.circuit.now) lent.entry.rows.now q p) (row_count (plain lent.entry.circuit.now) lent.entry.rows.now) }
 {
-    // a source below orders no net that has no row; `as` narrows a number below 256, and `try_from` would give a fault that never comes
+    // a source below orders no net that has no row; `as` narrows a number below 256, and `try_from` would give a fault that never
+    // comes
     lent.has_row(q)
         && lent.has_row(p)
         && (0..lent.row_count()).any(|m| is_through(source, lent, q, p, m as Net))
@@ -36,8 +38,8 @@ pub struct Chain<S> {
     pub below: S,
 }
 
-// The other layer passes the same on to its source below. One impl for both would stand beside that of `FromRows`, and two impls for every
-// type overlap.
+// The other layer passes the same on to its source below: one impl for both would overlap that of `FromRows`, and one struct over a
+// source and a rule would make one type of the two layers.
 impl<S: OrderSource> OrderSource for Chain<S> {
     ghost TAKES = { S.OrderSource.TAKES };
 

@@ -11,7 +11,8 @@ use netlist::{Circuit, Net};
 use runs::Row;
 use runs::row::INPUTS;
 
-// Whether number j is i, or gives no bounds at either row.
+// Whether number j is i, or gives no bounds at either row. Numbers are asked to be below 16, as an index is asked to be in range: a
+// type of such numbers would have to be opened at each use.
 fn is_none_but(pair: Pair, i: usize, j: usize) -> bool
     requires { j < 16 }
     ensures { result ≡ none_but i pair.entry.earlier.now pair.entry.later.now j }
@@ -55,14 +56,6 @@ impl FromRows for SameInput {
     ghost rowed = { same_input_third };
 
     fn tells(&self, circuit: &Circuit, rows: &[Row], q: Net, p: Net) -> bool {
-        let lent = Lent { circuit, rows };
-        let (Some(earlier), Some(later)) = (lent.row(q), lent.row(p)) else {
-            return false;
-        };
-        has_only_input(Pair {
-            lent,
-            earlier,
-            later,
-        })
+        Pair::of(Lent { circuit, rows }, q, p).is_some_and(has_only_input)
     }
 }

@@ -1,4 +1,5 @@
-// The order source: it holds separations of inputs, and answers whether every flip of one net comes before every flip of another.
+// The order source: it holds separations of inputs, and answers whether every flip of one net comes before every flip of
+// another.
 ghost use Rattle.std.specs.Prelude.{◌≡◌, Bool, List, []};
 ghost use Rattle.netlist.specs.View.{plain};
 ghost use Rattle.ordering.specs.Source.{Says, YesIsBefore, HeldIsMet, YesHasRows};
@@ -25,7 +26,8 @@ pub trait OrderSource: Sized {
     fn clear(&mut self)
         ensures { held self.new ≡ [] };
 
-    // Takes the separation of inputs a and b by s ticks, or says why not and stays as it was.
+    // Takes the separation of inputs a and b by s ticks, or says why not and stays as it was. The three stay numbers of their own, as
+    // a call gives them.
     fn separate(&mut self, a: Net, b: Net, s: i32) -> Result<(), SeparationFault>
         ensures { Answered TAKES held self.old a b s result self.new };
 

@@ -71,7 +71,8 @@ impl Spaced {
         }
     }
 
-    // Whether number j at the earlier row agrees with number i at the later.
+    // Whether number j at the earlier row agrees with number i at the later. Numbers are asked to be below 16, as an index is asked to
+    // be in range: a type of such numbers would have to be opened at each use.
     fn is_agreeing(&self, pair: Pair, j: usize, i: usize) -> bool
         requires { (j < 16) × (i < 16) }
         ensures { result ≡ agrees (held_by self.now.held) (plain pair.entry.lent.circuit.now) pair.entry.lent.rows.now pair.entry.earlier.now pair.entry.later.now j i }
@@ -128,16 +129,9 @@ impl OrderSource for Spaced {
     }
 
     fn before(&self, circuit: &Circuit, rows: &[Row], q: Net, p: Net) -> bool {
-        let lent = Lent { circuit, rows };
-        let (Some(earlier), Some(later)) = (lent.row(q), lent.row(p)) else {
+        let Some(pair) = Pair::of(Lent { circuit, rows }, q, p) else {
             return false;
         };
-        is_bounded(earlier)
-            && is_bounded(later)
-            && self.are_agreeing(Pair {
-                lent,
-                earlier,
-                later,
-            })
+        is_bounded(pair.earlier) && is_bounded(pair.later) && self.are_agreeing(pair)
     }
 }

@@ -1,23 +1,21 @@
 // A stem layer: over a source below, it also orders two nets that are tied to one clean net, their stem.
-ghost use Rattle.std.specs.Prelude.{◌≡◌, ℕ, ◌+◌, ◌-◌, ◌*◌, ◌<◌, ◌≤◌, false, cond, T, [], ◌∷◌, length, replicate, Some, None, slice_index, slice_index_or};
+ghost use Rattle.std.specs.Prelude.{◌≡◌, ℕ, ◌+◌, ◌-◌, ◌*◌, ◌<◌, ◌≤◌, false, cond, T, [], ◌∷◌, length, replicate, None, slice_index, slice_index_or};
 ghost use Rattle.netlist.specs.Circuit.{valid_gate};
 ghost use Rattle.netlist.specs.Plain.{plain_gate};
 ghost use Rattle.netlist.specs.View.{plain};
 ghost use Rattle.ordering.specs.Rows.{below, has_row, row_count, some_below};
 ghost use Rattle.ordering.specs.Stem.{all_tied, live_pin, live_ties, tie_of, ties_below, tie, tied_apart, stemmed};
 ghost use Rattle.ordering.specs.TieTable.{AtMost, SmallBelow, is_apart};
-ghost use Rattle.runs.specs.Gathered.{delayed, joined};
+ghost use Rattle.runs.specs.Gathered.{delayed};
 ghost use Rattle.ordering.specs.StemLaws.{stem_first, stem_third};
 ghost use Rattle.std.proofs.Common.{rules};
 
 use crate::rows::{Lent, is_below};
 use crate::source::OrderSource;
 use netlist::{Circuit, Gate, Net};
-use runs::{Bounds, Row, gate_of};
+use runs::row::NETS;
+use runs::{Bounds, Row, gate_of, join_bounds};
 use separations::SeparationFault;
-
-// The most nets that a circuit has.
-const NETS: usize = 256;
 
 // Whether the pin at place k, on net n, of a gate with this row is live.
 fn is_live(rows: &[Row], row: &Row, k: usize, n: Net) -> bool
@@ -25,13 +23,6 @@ fn is_live(rows: &[Row], row: &Row, k: usize, n: Net) -> bool
     ensures { result ≡ live_pin rows.now row.now k n }
 {
     row.held[k].is_none() && !rows[usize::from(n)].class.is_constant()
-}
-
-// The bounds so far, if any, joined with those of one more net.
-fn joined_with(all: Option<Bounds>, tie: Bounds) -> Bounds
-    ensures { Some result ≡ joined all (Some tie) }
-{
-    all.map_or(tie, |all| all.join(tie))
 }
 
 // The bounds of all live pins, or none if there is none or one of them is not tied.
@@ -43,7 +34,7 @@ fn join(rows: &[Row], ties: &[Option<Bounds>; NETS], row: &Row, pins: &[Net]) ->
     for (k, &n) in pins.iter().enumerate() {
         if is_live(rows, row, k, n) {
             let tie = ties[usize::from(n)]?;
-            all = Some(joined_with(all, tie));
+            all = join_bounds(all, Some(tie));
         }
     }
     all
@@ -96,7 +87,7 @@ fn may_tie_pins(lent: Lent, s: Net, row: &Row, pins: &[Net]) -> bool
     requires { (length pins.now ≤ 8) × (((k : ℕ) → k < length pins.now → slice_index pins.now k < length lent.rows.now)) }
     ensures { result ≡ false → all_tied None (live_ties lent.entry.rows.now (ties_below (plain lent.entry.circuit.now) lent.entry.rows.now s (row_count (plain lent.entry.circuit.now) lent.entry.rows.now)) row.now 0 pins.now) ≡ None }
 {
-    // a loop: of a chain, the check leaves open that its closure may be called at each place, and what its answer says
+    // a loop: with a chain the check does not find that its closure may be called at each place
     for (k, &n) in pins.iter().enumerate() {
         if is_apart(lent.circuit, s, n) && is_live(lent.rows, row, k, n) {
             return false;
@@ -143,7 +134,8 @@ fn ties_to(lent: Lent, s: Net, top: Net) -> [Option<Bounds>; NETS]
     ties
 }
 
-// Whether q and p are tied to net s, the greatest of q below the least of p.
+// Whether q and p are tied to net s, the greatest of q below the least of p. The three stay numbers of their own, as q and p are each
+// asked with s.
 fn ties_apart(lent: Lent, q: Net, p: Net, s: Net) -> bool
     ensures { result ≡ below (tie (plain lent.entry.circuit.now) lent.entry.rows.now s q) (tie (plain lent.entry.circuit.now) lent.entry.rows.now s p) }
 {
@@ -170,8 +162,8 @@ pub struct Stem<S> {
     pub below: S,
 }
 
-// The other layer passes the same on to its source below. One impl for both would stand beside that of `FromRows`, and two impls for every
-// type overlap.
+// The other layer passes the same on to its source below: one impl for both would overlap that of `FromRows`, and one struct over a
+// source and a rule would make one type of the two layers.
 impl<S: OrderSource> OrderSource for Stem<S> {
     ghost TAKES = { S.OrderSource.TAKES };
 

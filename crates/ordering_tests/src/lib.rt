@@ -7,6 +7,7 @@ mod tests {
     use classes::Class;
     use netlist::Circuit;
     use ordering::{Chain, OrderSource, SameInput, Silent, Spaced, Stem, ordered};
+    use runs::row::{INPUTS, PINS};
     use runs::{Bounds, Row};
     use std::alloc::Global;
     use std::test::Fail;
@@ -25,17 +26,22 @@ mod tests {
         }
     }
 
-    // A row with bounds from one input.
-    fn row(class: Class, input: usize, lo: u32, hi: u32) -> Row {
-        let mut bounds = [None; 16];
-        if input < 16 {
-            bounds[input] = Some(Bounds { lo, hi });
-        }
+    // A row without bounds.
+    fn unbounded(class: Class) -> Row {
         Row {
             class,
-            bounds,
-            held: [None; 8],
+            bounds: [None; INPUTS],
+            held: [None; PINS],
         }
+    }
+
+    // A row with bounds from one input.
+    fn row(class: Class, input: usize, lo: u32, hi: u32) -> Row {
+        let mut row = unbounded(class);
+        if let Some(bounds) = row.bounds.get_mut(input) {
+            *bounds = Some(Bounds { lo, hi });
+        }
+        row
     }
 
     // The rows of the circuit where both inputs rise once.
@@ -158,7 +164,7 @@ mod tests {
     #[test]
     fn stem_ties_nets(rt: HostRuntime) -> Result<(), Fail> {
         let circuit = small(rt.alloc())?;
-        let mut rows = [row(Class::C0R1, 16, 0, 0); 6];
+        let mut rows = [unbounded(Class::C0R1); 6];
         let source = Stem { below: Silent };
         assert_eq!(rt; ordered(&source, &circuit, &rows, 2, 3), true);
         assert_eq!(rt; ordered(&source, &circuit, &rows, 3, 2), false);
@@ -175,8 +181,8 @@ mod tests {
             true,
             "pin 0 is held, so 5 comes 8 ticks after 0"
         );
-        rows[0] = row(Class::C0X1, 16, 0, 0);
-        rows[3] = row(Class::C000, 16, 0, 0);
+        rows[0] = unbounded(Class::C0X1);
+        rows[3] = unbounded(Class::C000);
         assert_eq!(rt; ordered(&source, &circuit, &rows, 3, 5), false);
         Ok(())
     }

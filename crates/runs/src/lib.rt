@@ -6,5 +6,5 @@ pub mod row;
 pub mod run;
 
 pub use gate::gate_of;
-pub use row::{Bounds, Row};
+pub use row::{Bounds, Row, join_bounds};
 pub use run::{run_exists_and_is_unique, run_exists_for_inputs, waves_of_a_run_rise};

@@ -10,6 +10,9 @@ pub const INPUTS: usize = 16;
 // the most pins that a gate has
 pub const PINS: usize = 8;
 
+// the most nets that a circuit has
+pub const NETS: usize = 256;
+
 // a flip comes lo to hi ticks after a flip of the input that it comes from
 #[derive(Clone, Copy, PartialEq, Eq, Debug)]
 pub struct Bounds {
@@ -26,6 +29,16 @@ impl Bounds {
             lo: self.lo.min(other.lo),
             hi: self.hi.max(other.hi),
         }
+    }
+}
+
+// The narrowest bounds that contain both; none where neither is there.
+pub fn join_bounds(one: Option<Bounds>, other: Option<Bounds>) -> Option<Bounds>
+    ensures { result ≡ joined one other }
+{
+    match (one, other) {
+        (Some(x), Some(y)) => Some(x.join(y)),
+        _ => one.or(other),
     }
 }
 

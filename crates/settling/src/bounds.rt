@@ -1,26 +1,17 @@
-// The bounds of a gate's net: the least delay and the smallest lo, the greatest delay and the largest hi, over the pins that are not held.
+// The bounds of a gate's net: the least delay and the smallest lo, the greatest delay and the largest hi, over the pins that are
+// not held.
 ghost use Rattle.std.specs.Prelude.{◌≡◌, ◌+◌, ◌*◌, ◌<◌, ◌≤◌, length};
 ghost use Rattle.netlist.specs.Plain.{plain_gate};
-ghost use Rattle.runs.specs.Gathered.{delayed, from_place, gathered, joined, unless_held};
+ghost use Rattle.runs.specs.Gathered.{delayed, from_place, gathered, unless_held};
 ghost use Rattle.ordering.specs.TieTable.{AtMost};
 ghost use Rattle.settling_theory.specs.Settled.{gate_bounds, listed};
 
 use crate::held_gate::HeldGate;
 use classes::Class;
 use netlist::Gate;
-use runs::Bounds;
 use runs::row::INPUTS;
+use runs::{Bounds, join_bounds};
 use std::array;
-
-// The narrowest bounds that contain both.
-fn join(one: Option<Bounds>, other: Option<Bounds>) -> Option<Bounds>
-    ensures { result ≡ joined one other }
-{
-    match (one, other) {
-        (Some(x), Some(y)) => Some(x.join(y)),
-        _ => one.or(other),
-    }
-}
 
 // The bounds of a pin that is not held.
 fn unless_held(held: Option<bool>, bounds: Option<Bounds>) -> Option<Bounds>
@@ -37,7 +28,8 @@ fn later(tick: u32, delay: u16) -> u32
     tick + u32::from(delay)
 }
 
-// The bounds after the gate's delay.
+// The bounds after the gate's delay. `tie_behind` of the stem layer adds the same: one function for both would be public in
+// `runs`, and would have to ask that the sums fit, which no public function asks.
 fn delay(gate: &Gate, bounds: Option<Bounds>) -> Option<Bounds>
     requires { AtMost (65535 * 255) bounds }
     ensures { result ≡ delayed (plain_gate gate.now) bounds }
@@ -49,7 +41,8 @@ fn delay(gate: &Gate, bounds: Option<Bounds>) -> Option<Bounds>
 }
 
 impl HeldGate<'_> {
-    // What one pin place gives from input i: the bounds of its net after the gate's delay, unless the place is held.
+    // What one pin place gives from input i: the bounds of its net after the gate's delay, unless the place is held. Number i is
+    // asked to be below 16, as an index is asked to be in range: a type of such numbers would have to be opened at each use.
     fn from_place(&self, i: usize, place: usize) -> Option<Bounds>
         requires { (i < 16) × (place < length (plain_gate self.now.at.gate.now).pins) }
         ensures { result ≡ from_place self.now.at.below.now i (plain_gate self.now.at.gate.now) self.now.held.now place }
@@ -63,7 +56,10 @@ impl HeldGate<'_> {
         requires { i < 16 }
         ensures { result ≡ gathered (from_place self.now.at.below.now i (plain_gate self.now.at.gate.now) self.now.held.now) (length (plain_gate self.now.at.gate.now).pins) }
     {
-        (0..self.at.pins()).fold(None, |all, place| join(all, self.from_place(i, place)))
+        (0..self.at.pins()).fold(
+            None,
+            |all, place| join_bounds(all, self.from_place(i, place)),
+        )
     }
 
     // The bounds from input i, or none if the class is constant.

@@ -3,6 +3,7 @@ ghost use Rattle.std.specs.Prelude.{Some};
 ghost use Rattle.settling.specs.Fault.{fault_text};
 
 use netlist::Net;
+use std::error::Error;
 use std::fmt;
 
 // no input has this number
@@ -19,3 +20,5 @@ impl fmt::Display for NoSuchInput {
         write!(f, "no input has the number {input}")
     }
 }
+
+impl Error for NoSuchInput {}

@@ -14,7 +14,8 @@ pub(crate) struct GateAt<'a, K> {
     ghost valid: { T (valid_gate (length below.now) (plain_gate gate.now)) },
 }
 
-// A pin place is asked to be one, as an index is: a type of places would have to say of which gate.
+// A place is asked to be one of the gate's pins, as an index is asked to be in range: a type of places would have to say of which
+// gate.
 impl<'a, K> GateAt<'a, K> {
     // The number of pins.
     pub(crate) fn pins(&self) -> usize

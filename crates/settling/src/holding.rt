@@ -15,7 +15,8 @@ use runs::Row;
 use runs::row::PINS;
 use std::array;
 
-// The value that a letter fixes, if it is 0 or 1. No `From`: neither type is of this crate.
+// The value that a letter fixes, if it is 0 or 1. Written here, where its definition stands: to `classes` X is a value like the
+// others.
 fn fixed_by(letter: Three) -> Option<bool>
     ensures { result ≡ fixed_by letter }
 {
@@ -34,8 +35,8 @@ fn is_value(letter: Three, value: bool) -> bool
 }
 
 impl<S: OrderSource> Pin<'_, S> {
-    // Whether place q is another one and may hold this pin at the letter: for the start, q ends at control and is before the pin; for
-    // the end, q starts at control and the pin is before it.
+    // Whether place q is another one and may hold this pin at the letter: for the start, q ends at control and is before the pin;
+    // for the end, q starts at control and the pin is before it.
     fn is_holder(&self, hold: Hold, q: usize) -> bool
         requires { q < length (plain_gate self.now.at.now.gate.now).pins }
         ensures { result ≡ (not (q == self.now.place) && may_hold (asked S.OrderSource self.now.source.now self.now.circuit.now) self.now.at.now.below.now (plain_gate self.now.at.now.gate.now) hold self.now.place q) }
@@ -90,7 +91,8 @@ impl<S: OrderSource> Pin<'_, S> {
     }
 }
 
-// The value at which a place is held; no pin, or a gate without a control value: none.
+// The value at which a place is held; no pin, or a gate without a control value: none. Source, circuit and gate come one by one,
+// here and in `held_pins`: they go into a `Pin` where there is a place that is a pin.
 fn held_pin<S: OrderSource>(
     source: &S,
     circuit: &Circuit,

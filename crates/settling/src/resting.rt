@@ -15,14 +15,11 @@ use classes::{Class, Three};
 use narrowest::evaluate_narrowest;
 use netlist::{Circuit, Net};
 use runs::gate_of;
-use runs::row::{INPUTS, PINS};
+use runs::row::{INPUTS, NETS, PINS};
 use std::array;
 
-// the most nets that a circuit has
-const NETS: usize = 256;
-
-// The value of the net at each pin; past the pins, unknown. Classes have `pin_classes`, which differs in what it asks of each place:
-// one function for both would take that as a closure, and be no shorter.
+// The value of the net at each pin; past the pins, unknown. A fixed array, as rest allocates nothing. One function for this and
+// `pin_classes` would take a closure, and its contract would have to name what the closure gives at each place.
 fn pin_values(at: &GateAt<'_, Three>) -> [Three; PINS]
     ensures { take (length (plain_gate at.now.gate.now).pins) result ≡ map (value_at at.now.below.now) (plain_gate at.now.gate.now).pins }
 {
@@ -43,7 +40,8 @@ fn gate_value(at: &GateAt<'_, Three>) -> Three
     evaluate_narrowest(at.gate.function, &pins[..at.pins()])
 }
 
-// The value of net n from the values of the nets below it.
+// The value of net n from the values of the nets below it. The net is asked to be one, as an index is asked to be in range: a type
+// of nets would have to say of which circuit.
 fn value_for(
     circuit: &Circuit,
     classes: &[Class; INPUTS],
@@ -68,10 +66,11 @@ fn value_of(circuit: &Circuit, classes: &[Class; INPUTS], letter: Letter, net: N
     requires { net < net_count (plain circuit.now) }
     ensures { result ≡ value_at (values_to (input_letter letter classes.now) (plain circuit.now) (net_count (plain circuit.now))) net }
 {
-    // each value is worked out from those before it, so the array is filled in rising order; `as` narrows a number up to `net`
+    // each value is worked out from those before it, so the array is filled in rising order; it has room for the most nets, as rest
+    // allocates nothing; `as` narrows a number up to `net`
     let mut values = [Three::Unknown; NETS];
     let last = usize::from(net);
-    for n in 0..last + 1 {
+    for n in 0..=last {
         values[n] = value_for(circuit, classes, letter, &values[..n], n as Net);
     }
     values[last]

@@ -13,7 +13,8 @@ use ordering::OrderSource;
 use runs::row::{INPUTS, PINS};
 use runs::{Bounds, Row};
 
-// The row of input n: its stimulus as class and, unless that is constant, bounds 0 to 0 from itself.
+// The row of input n: its stimulus as class and, unless that is constant, bounds 0 to 0 from itself. The
+// number is asked to be below 16, as an index is asked to be in range: a type of such numbers would have to be opened at each use.
 pub(crate) fn row_for_input(class: Class, n: usize) -> Row
     requires { n < 16 }
     ensures { result ≡ input_row class n }
@@ -29,7 +30,7 @@ pub(crate) fn row_for_input(class: Class, n: usize) -> Row
     }
 }
 
-// The row of a gate's net.
+// The row of a gate's net. Source, circuit and gate become one `Pin` below, where there is a place too.
 pub(crate) fn row_for_gate<S: OrderSource>(
     source: &S,
     circuit: &Circuit,

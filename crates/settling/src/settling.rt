@@ -14,7 +14,8 @@ use netlist::Net;
 use ordering::OrderSource;
 use runs::{Row, gate_of};
 
-// The rows below net n: what the source is lent at net n.
+// The rows below net n: what the source is lent at net n. The net is asked to be one, as an index is asked to be in range: a type
+// of nets would have to say of which circuit.
 fn rows_below(tables: &Tables, n: Net) -> &[Row]
     requires { n < net_count (circuit_of tables.now) }
     ensures { result.now ≡ take n (rows_of tables.now) }

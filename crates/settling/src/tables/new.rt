@@ -13,7 +13,8 @@ use runs::row::{INPUTS, PINS};
 use std::alloc::{AllocError, Global};
 
 impl Tables {
-    // Tables with every input constant 0 and rows of class XXX without bounds or held pins (which say nothing until `settle` writes them), or a fault if there is no memory for the rows.
+    // Tables with every input constant 0 and rows of class XXX without bounds or held pins (which say nothing until `settle` writes
+    // them), or a fault if there is no memory for the rows.
     pub fn new(heap: Global, circuit: Circuit) -> Result<Tables, AllocError>
         ensures circuit { IfOk result (λ t. t.circuit ≡ circuit) }
         ensures classes { IfOk result (λ t. classes_of t ≡ replicate 16 C000) }

@@ -27,8 +27,8 @@ impl Tables {
         ordered(source, &self.circuit, self.rows.as_slice(), q, p)
     }
 
-    // Whether every flip of net q comes before every flip of net p, as far as the source tells over the rows as they stand: settle
-    // first. A yes over rows that `settle` wrote for these classes and for what this source holds is true in every run with its
+    // Whether every flip of net q comes before every flip of net p, as far as the source tells over the rows as they stand:
+    // settle first. A yes over rows that `settle` wrote for these classes and for what this source holds is true in every run with its
     // inputs in the classes that meets what is held. Over other rows a yes holds only in the runs in which they are true.
     pub fn order<S: OrderSource>(&self, source: &S, q: Net, p: Net) -> bool
         ensures answer { result ≡ asked S.OrderSource source.now self.now.circuit (rows_of self.now) q p }

@@ -8,7 +8,8 @@ use classes::Class;
 use netlist::Net;
 
 impl Tables {
-    // Gives an input a class; a number that is no input is refused, and all is as it was. The rows stay as they are: settle again.
+    // Gives an input a class; a number that is no input is refused, and all is as it was. The rows stay as they
+    // are: settle again.
     pub fn stimulate(&mut self, input: Net, class: Class) -> Result<(), NoSuchInput>
         ensures told { is_ok result ≡ nat_lt input (circuit_of self.old).inputs }
         ensures refused { IfErr result (λ e. e.input ≡ input) }

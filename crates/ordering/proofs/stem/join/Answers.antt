@@ -15,7 +15,7 @@ loop-k-preserved c =
     elim c.if-is_live.branch [
       | then-is_live+in_ok-tie w ↦
           join_takes c.args.rows.now c.args.ties.now c.args.row.now c.args.pins.now c.loop-k.k c.loop-k.all _ _ w.in_ok-tie.tie
-          c.loop-k-test.true (sym c.is_live.ensures ∙ w.if-is_live.true) (search rules) (w.all-is ∙ w.joined_with.ensures) c.loop-k.invariant
+          c.loop-k-test.true (sym c.is_live.ensures ∙ w.if-is_live.true) (search rules) (w.all-is ∙ w.join_bounds-all.ensures) c.loop-k.invariant
       | else-is_live w ↦
           join_skips c.args.rows.now c.args.ties.now c.args.row.now c.args.pins.now c.loop-k.k c.loop-k.all _ _
           c.loop-k-test.true (sym c.is_live.ensures ∙ w.if-is_live.false) w.all-is c.loop-k.invariant
