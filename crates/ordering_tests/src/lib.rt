@@ -56,7 +56,7 @@ mod tests {
         ]
     }
 
-    // 0 for an acceptance, else the number of the refusal.
+    // 0 for an acceptance, else the number of the refusal, as the cases below have them.
     fn number<S: OrderSource>(source: &mut S, a: u8, b: u8, s: i32) -> u8 {
         match source.separate(a, b, s) {
             Ok(()) => 0,

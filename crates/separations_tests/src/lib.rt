@@ -5,7 +5,7 @@
 mod tests {
     use separations::{SeparationFault, Separations};
 
-    // 0 for an acceptance, else the number of the refusal.
+    // 0 for an acceptance, else the number of the refusal, as the cases below have them.
     fn number(answer: Result<(), SeparationFault>) -> u8 {
         answer.err().map_or(0, |fault| fault.refusal().number)
     }
