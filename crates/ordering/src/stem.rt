@@ -126,7 +126,8 @@ fn untied() -> [Option<Bounds>; NETS]
 fn ties_to(lent: Lent, s: Net, top: Net) -> [Option<Bounds>; NETS]
     ensures { (k : ℕ) → k ≤ top → slice_index_or result k None ≡ tie (plain lent.entry.circuit.now) lent.entry.rows.now s k }
 {
-    // each tie is worked out from those before it, so the table is filled in rising order
+    // each tie is worked out from those before it, so the table is filled in rising order; it has room for the most nets, as a source
+    // allocates nothing
     let mut ties = untied();
     for n in s..=top {
         ties[usize::from(n)] = tie_of(lent, s, &ties, n);

@@ -4,7 +4,8 @@ ghost use Rattle.runs.specs.Gathered.{joined};
 
 use classes::Class;
 
-// the most inputs that a circuit has
+// the most inputs that a circuit has; the reader of files has this limit and the next one too, as what it compares them with asks:
+// a byte, and a length
 pub const INPUTS: usize = 16;
 
 // the most pins that a gate has
