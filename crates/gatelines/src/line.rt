@@ -10,7 +10,7 @@ use functions::Function;
 use waveform::evaluate;
 use words::Words;
 
-// the most pins that a gate has
+// the most pins that a gate has; this crate rests on no circuits, which have the number too
 const PINS: usize = 8;
 
 // Puts one more class behind the pins, if there is room.
@@ -27,10 +27,7 @@ fn read_pins(words: Words) -> Result<ArrayVec<Class, PINS>, LineFault>
     let mut pins = ArrayVec::new();
     let mut added = Ok(());
     for word in words {
-        // a `let else` is no longer than `map_err` and `?`, and what it leaves to prove is less
-        let Ok(class) = word.parse::<Class>() else {
-            return Err(LineFault::UnknownClass);
-        };
+        let class = word.parse().map_err(|_| LineFault::UnknownClass)?;
         added = add(&mut pins, class);
     }
     added?;

@@ -30,6 +30,7 @@ fn join(rows: &[Row], ties: &[Option<Bounds>; NETS], row: &Row, pins: &[Net]) ->
     requires { (length pins.now ≤ 8) × (((k : ℕ) → k < length pins.now → slice_index pins.now k < length rows.now)) }
     ensures { result ≡ all_tied None (live_ties rows.now ties.now row.now 0 pins.now) }
 {
+    // a loop: a chain would give the bounds so far and whether one net was not tied as one value, to be taken apart at each pin
     let mut all: Option<Bounds> = None;
     for (k, &n) in pins.iter().enumerate() {
         if is_live(rows, row, k, n) {
@@ -126,8 +127,7 @@ fn untied() -> [Option<Bounds>; NETS]
 fn ties_to(lent: Lent, s: Net, top: Net) -> [Option<Bounds>; NETS]
     ensures { (k : ℕ) → k ≤ top → slice_index_or result k None ≡ tie (plain lent.entry.circuit.now) lent.entry.rows.now s k }
 {
-    // each tie is worked out from those before it, so the table is filled in rising order; it has room for the most nets, as a source
-    // allocates nothing
+    // each tie is worked out from those before it, so the table is filled in rising order from s, with no tie below it
     let mut ties = untied();
     for n in s..=top {
         ties[usize::from(n)] = tie_of(lent, s, &ties, n);

@@ -4,8 +4,7 @@ ghost use Rattle.runs.specs.Gathered.{joined};
 
 use classes::Class;
 
-// the most inputs that a circuit has; the reader of files has this limit and the next one too, as what it compares them with asks:
-// a byte, and a length
+// the most inputs that a circuit has; the reader of files compares with this limit and the next one, and keeps them to itself
 pub const INPUTS: usize = 16;
 
 // the most pins that a gate has
@@ -33,7 +32,7 @@ impl Bounds {
     }
 }
 
-// The narrowest bounds that contain both; none where neither is there.
+// The narrowest bounds that contain both, where one is missing the other, or none where both are.
 pub fn join_bounds(one: Option<Bounds>, other: Option<Bounds>) -> Option<Bounds>
     ensures { result ≡ joined one other }
 {

@@ -29,8 +29,8 @@ impl HeldGate<'_> {
         pin_class(self.at.known(place).class, self.held[place])
     }
 
-    // The class that each pin evaluates as; past the pins, constant 0. Settling allocates nothing, so the pins stand in a fixed
-    // array, with their count beside it.
+    // The class that each pin evaluates as; past the pins, constant 0. An array and no `ArrayVec`, which would have to be filled
+    // push by push, each push with a fault that never comes.
     fn pin_classes(&self) -> [Class; PINS]
         ensures { take (length (plain_gate self.now.at.gate.now).pins) result ≡ pin_classes self.now.at.below.now (plain_gate self.now.at.gate.now) self.now.held.now }
     {

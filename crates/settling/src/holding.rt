@@ -15,8 +15,7 @@ use runs::Row;
 use runs::row::PINS;
 use std::array;
 
-// The value that a letter fixes, if it is 0 or 1. Written here, where its definition stands: to `classes` X is a value like the
-// others.
+// The value that a letter fixes, if it is 0 or 1. Written here, with the rule of holding: to `classes` X is a value like the others.
 fn fixed_by(letter: Three) -> Option<bool>
     ensures { result ≡ fixed_by letter }
 {

@@ -18,7 +18,7 @@ use runs::gate_of;
 use runs::row::{INPUTS, NETS, PINS};
 use std::array;
 
-// The value of the net at each pin; past the pins, unknown. A fixed array, as rest allocates nothing. One function for this and
+// The value of the net at each pin; past the pins, unknown. An array, as in `pin_classes`. One function for this and
 // `pin_classes` would take a closure, and its contract would have to name what the closure gives at each place.
 fn pin_values(at: &GateAt<'_, Three>) -> [Three; PINS]
     ensures { take (length (plain_gate at.now.gate.now).pins) result ≡ map (value_at at.now.below.now) (plain_gate at.now.gate.now).pins }
@@ -66,8 +66,8 @@ fn value_of(circuit: &Circuit, classes: &[Class; INPUTS], letter: Letter, net: N
     requires { net < net_count (plain circuit.now) }
     ensures { result ≡ value_at (values_to (input_letter letter classes.now) (plain circuit.now) (net_count (plain circuit.now))) net }
 {
-    // each value is worked out from those before it, so the array is filled in rising order; it has room for the most nets, as rest
-    // allocates nothing; `as` narrows a number up to `net`
+    // each value is worked out from those before it, so the array is filled in rising order (no `ArrayVec`: each push would have a
+    // fault that never comes, as `try_from` would in place of the narrowing `as`)
     let mut values = [Three::Unknown; NETS];
     let last = usize::from(net);
     for n in 0..=last {

@@ -59,7 +59,8 @@ pub fn settle<S: OrderSource>(tables: &mut Tables, source: &S)
     ensures letters { LettersAreRest (circuit_of tables.old) (classes_of tables.old) (rows_of tables.new) }
     ensures fit { BoundsFit (circuit_of tables.old) (rows_of tables.new) }
 {
-    // a row is worked out from the rows below it, so no iterator over the rows can write them; `as` narrows a number below 256
+    // a row is worked out from the rows below it, so no iterator over the rows can write them; `as` narrows a number
+    // below 256, and `try_from` would give a fault that never comes
     for n in 0..tables.rows.len() {
         settle_net(tables, source, n as Net);
     }

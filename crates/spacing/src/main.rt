@@ -29,8 +29,8 @@ impl fmt::Display for Reply {
     }
 }
 
-// The loop stands in each program that answers lines: no public function here has a `requires`, and one that takes what is done
-// with a line as a closure would need one.
+// The loop stands in each program that answers lines: no public function here has a `requires`, and a function that takes what is
+// done with a line as a closure would need one.
 fn main(rt: HostRuntime) -> io::Result<()> {
     let mut bytes = Vec::new(rt.alloc());
     let _ = rt.stdin().read_to_end(&mut bytes)?;
