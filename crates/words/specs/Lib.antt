@@ -1,3 +1,2 @@
 -- The definitions that the contracts of this crate cite, by subject.
-pub mod Left
 pub mod Words

@@ -6,24 +6,20 @@ ghost use Rattle.std.specs.Iterator.{YieldsFirstRef, item_count};
 ghost use Rattle.words.specs.Words.{words};
 
 use std::marker::Model;
-use std::str::Split;
 
 // The words that are left of a text. A contract sees it as the list of these words.
 #[derive(Drop)]
 pub struct Words<'a> {
-    parts: Split<'a, char>,
+    left: &'a str,
 }
 
 impl<'a> Model for Words<'a> {
-    ghost use Rattle.std.specs.Prelude.{◌≡◌, ℕ, List};
-    ghost use Rattle.std.specs.Str.Iter.{split_pattern};
-    ghost use Rattle.words.specs.Left.{words_left};
+    ghost use Rattle.std.specs.Prelude.{ℕ, List};
+    ghost use Rattle.words.specs.Words.{words};
 
     ghost Value = { List (List ℕ) };
 
-    ghost view = { λ w. words_left w.parts };
-
-    ghost invariant = { λ w. split_pattern w.parts ≡ 32 };
+    ghost view = { λ w. words w.left.now };
 }
 
 // Whether a part of a text is a word: it is not empty.
@@ -38,9 +34,7 @@ impl<'a> Words<'a> {
     pub fn new(text: &'a str) -> Words<'a>
         ensures { result ≡ words text.now }
     {
-        Words {
-            parts: text.split(' '),
-        }
+        Words { left: text }
     }
 }
 
@@ -53,6 +47,15 @@ impl<'a> Iterator for Words<'a> {
 
     // The next part between spaces that is not empty.
     fn next(&mut self) -> Option<&'a str> {
-        self.parts.find(|part| is_word(part))
+        // a loop: a search of the parts by `find` took a line of words up to twice the work
+        while let Some((part, after)) = self.left.split_once(' ') {
+            self.left = after;
+            if is_word(part) {
+                return Some(part);
+            }
+        }
+        let last = self.left;
+        self.left = "";
+        is_word(last).then_some(last)
     }
 }
