@@ -1,5 +1,5 @@
 -- A gate or a head that is written out reads back as it was. Assumes nothing.
-use Rattle.std.proofs.Common.{◌≡◌, ℕ, ◌+◌, ◌/◌, ◌%◌, ◌≤◌, Bool, true, false, cond, T, eqb, leb, List, ◌∷◌, ◌++◌, length, drop, None, arith, rules}
+use Rattle.std.proofs.Common.{◌≡◌, ℕ, ◌+◌, ◌/◌, ◌%◌, ◌≤◌, Bool, true, false, cond, ◌&&◌, T, eqb, leb, List, ◌∷◌, ◌++◌, length, drop, None, arith, rules}
 use Rattle.std.proofs.lemmas.Grind.{common_steps}
 use Rattle.std.proofs.lemmas.Bool.Decides.{nat_tests}
 use Rattle.functions.specs.declared.function.Function.{Function}
@@ -44,6 +44,10 @@ function_back f = grind arith
 -- the code of the function of a code
 pub code_back : (n : ℕ) → n ≤ 7 → (described (function_from n)).code ≡ n
 code_back n h = grind (arith, nat_tests)
+
+-- a count that is neither below nor above one pin is one, and a size that a gate may have
+one_pin_lem : (n : ℕ) → (leb 1 n && leb n 1) ≡ true → (1 ≤ n) × (n ≤ 8) × (eqb n 1 ≡ true)
+one_pin_lem n h = (grind (arith, nat_tests), grind (arith, nat_tests), grind (arith, nat_tests))
 
 -- what a pin count that the function takes says of the rules for size, code and count
 counted : (f : Function) (n : ℕ) → takes_pins f n ≡ true → (1 ≤ n) × (n ≤ 8) × (count_due (described f).code n ≡ true) × (leb (described f).code 7 ≡ true)

@@ -84,6 +84,10 @@ pins_few f n h =
 pub gate_default : (c : PlainCircuit) (k : ℕ) (d : PlainGate) → k < length c.gates → gate_at c k ≡ get_or c.gates k d
 gate_default c k d l = get_or_default c.gates k _ d l
 
+-- a net that is no input is that of the gate at this place
+pub gate_place : (c : PlainCircuit) (n : ℕ) → c.inputs ≤ n → n < net_count c → (n - c.inputs < length c.gates) × (c.inputs + (n - c.inputs) ≡ n)
+gate_place c n h l = (omega arith, omega arith)
+
 -- a net is an input or the net of a gate
 pub net_cases : (c : PlainCircuit) (n : ℕ) → n < net_count c → (n < c.inputs) ⊎ ((k : ℕ) × (k < length c.gates) × (n ≡ c.inputs + k))
 net_cases c n l = elim (cases_lt n c.inputs) [ inl p ↦ inl p | inr p ↦ inr (n - c.inputs, omega arith, omega arith) ]

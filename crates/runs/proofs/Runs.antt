@@ -4,10 +4,10 @@ use Rattle.std.specs.List.{range_with_len}
 use Rattle.std.proofs.lemmas.List.{length-map, length_push, get_or_append_left, get_or_push, get_or-take, get_or-map, take_all, take-append-le, ext_get_or}
 use Rattle.std.proofs.lemmas.List.FromFn.{length-map-range_with_len, get_or-map-range_with_len}
 use Rattle.std.proofs.lemmas.Bool.{cases_lt}
-use Rattle.signals.specs.Waveform.{Waveform, Rising, constant}
+use Rattle.signals.specs.Waveform.{Waveform, Rising, FlipsAt, constant}
 use Rattle.signals.specs.GateRule.{GateRule}
-use Rattle.signals.proofs.Outputs.{one_output}
-use Rattle.signals.proofs.Later.{rising_later}
+use Rattle.signals.proofs.Outputs.{one_output, flips_from_pins}
+use Rattle.signals.proofs.Later.{rising_later, flips_later}
 use Rattle.functions.specs.Function.{described}
 use Rattle.netlist.specs.Circuit.{PlainGate, PlainCircuit, valid_circuit, net_count}
 use Rattle.runs.specs.Run.{Run, RunOf, wave, gate_at}
@@ -237,3 +237,27 @@ waves_rise {c} {run} r n l = elim (net_cases c n l) [ inl p ↦ r.inputs_rise n 
 
 pub all_waves_rise : WavesRise
 all_waves_rise c run r n l = waves_rise r n l
+
+-- a flip of a gate's output comes the delay after a flip of a pin
+pub flip_cause :
+    (c : PlainCircuit) (run : Run) → RunOf c run → (k : ℕ) → k < length c.gates → (t : ℕ) → FlipsAt (wave run (c.inputs + k)) t →
+    (place : ℕ) × (place < length (gate_at c k).pins) × (cause : ℕ) × FlipsAt (wave run (get_or (gate_at c k).pins place 0)) cause × (t ≡ cause + get_or run.delays k 0)
+flip_cause c run r k l t h = (p.0, inside, u.0, subst (λ (w : Waveform). FlipsAt w u.0) at_pin p.2, u.2)
+  where
+    pins : List Waveform
+    pins = map (wave run) (gate_at c k).pins
+
+    g : GateRule (described (gate_at c k).function).truth pins (get_or run.delays k 0) (wave run (c.inputs + k))
+    g = r.obeys k l
+
+    u : (v : ℕ) × FlipsAt g.undelayed v × (t ≡ v + get_or run.delays k 0)
+    u = flips_later (get_or run.delays k 0) g.undelayed t (subst (λ (w : Waveform). FlipsAt w t) g.delayed h)
+
+    p : (j : ℕ) × (j < length pins) × FlipsAt (get_or pins j (constant false)) u.0
+    p = flips_from_pins (described (gate_at c k).function).truth pins g.undelayed g.pointwise u.0 u.1
+
+    inside : p.0 < length (gate_at c k).pins
+    inside = omega (arith, p.1, length-map (gate_at c k).pins (wave run))
+
+    at_pin : get_or pins p.0 (constant false) ≡ wave run (get_or (gate_at c k).pins p.0 0)
+    at_pin = get_or-map (wave run) (gate_at c k).pins p.0 0 (constant false) inside

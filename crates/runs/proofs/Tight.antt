@@ -145,6 +145,11 @@ place_gives (Some b) None g q e = record { pin = b; unheld = refl; given = refl;
 place_gives None None g q e = absurd (none_is_not_some None q refl e)
 place_gives o (Some v) g q e = absurd (none_is_not_some None q refl e)
 
+pub place_absent : (o : Option Bounds) (held : Option Bool) (g : PlainGate) → delayed g (unless_held held o) ≡ None → held ≡ None → o ≡ None
+place_absent None None g e h = refl
+place_absent (Some b) None g e h = absurd (none_is_not_some (delayed g (Some b)) _ e refl)
+place_absent o (Some v) g e h = absurd (none_is_not_some (Some v) v h refl)
+
 -- the net of a gate that is live: its bounds, gathered from its pins, are tight if those of the nets at its pins are
 module _ (c : PlainCircuit) (rows : List Row) (i k : ℕ) (inside : k < length c.gates) (live : Live rows (c.inputs + k))
     (pins-tight : (place : ℕ) → place < length (gate_at c k).pins → TightBounds c rows i (get_or (gate_at c k).pins place 0)) where

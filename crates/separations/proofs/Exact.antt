@@ -1,11 +1,11 @@
 -- What the test tells of the list that a table of sixteen rows holds. Assumes nothing.
-use Rattle.std.proofs.Common.{None, ◌≡◌, ℕ, ◌<◌, ◌≤◌, Bool, true, eqb, List, [], length, get_or, set, ℤ, pos, negsuc, ◌+ℤ◌, nat_abs, Some, Option, sym, refl, subst, replicate, ap, ◌∙◌, arith}
+use Rattle.std.proofs.Common.{None, ◌≡◌, ℕ, ◌<◌, ◌≤◌, Bool, true, false, cond, ◌||◌, ltb, eqb, ◌⊎◌, inl, inr, ⊎_elim, List, [], length, get_or, set, ℤ, pos, negsuc, ◌+ℤ◌, nat_abs, Some, Option, sym, refl, subst, replicate, ap, ◌∙◌, arith}
 use Rattle.std.proofs.lemmas.List.Elements.{All-from_recursion, recursion_from_All}
 use Rattle.std.proofs.lemmas.List.Sums.{AllPass-from_list_all, list_all-from_AllPass}
 use Rattle.std.proofs.lemmas.List.Recursion.{and_at, and_set}
-use Rattle.std.proofs.lemmas.List.{length-set}
+use Rattle.std.proofs.lemmas.List.{length-set, get_or_past}
 use Rattle.std.proofs.lemmas.Int.{ints}
-use Rattle.std.proofs.lemmas.Bool.{and_parts, and_from, eqb-true, eq-eqb}
+use Rattle.std.proofs.lemmas.Bool.{and_parts, and_from, or_cases, cases_lt, ltb-true, eqb-true, eq-eqb}
 use Rattle.std.proofs.lemmas.Bool.Decides.{nat_tests}
 use Rattle.std.specs.List.{list_all, AllByRecursion}
 use Rattle.separations.specs.Separations.{Separation, separation, Meets, MeetsAll, WellFormed, Table, spacing_at, spacing_in, larger_than, placed, with_larger, held, is_full, is_formed}
@@ -30,6 +30,10 @@ all_passes p xs h = list_all-from_AllPass p xs (All-from_recursion (λ x. p x �
 pub spacing_in_lem : (table : Table) (a b : ℕ) → spacing_in a b (held table) ≡ spacing_at table a b
 spacing_in_lem table a b = table_in 0 a a b table (omega arith)
 
+-- the spacing that the table has at the pair (a, b), none where a number is no input's
+abbrev pub spacing_of : Table → ℕ → ℕ → Option ℤ
+spacing_of table a b = cond (ltb 15 a || ltb 15 b) None (spacing_at table a b)
+
 -- a row of sixteen places
 abbrev wide : List (Option ℤ) → Bool
 wide row = eqb (length row) 16
@@ -48,6 +52,26 @@ module _ (table : Table) (full : is_full table ≡ true) where
       let long = full_rows in
       eqb-true (length (get_or table a [])) 16
       (and_at (list_all wide) wide refl (λ x xs. refl) table a [] (omega arith) rows_full)
+
+  outside : (a b : ℕ) → (15 < a) ⊎ (15 < b) → spacing_at table a b ≡ None
+  outside a b above =
+      let long = full_rows in
+      ⊎_elim
+      (λ (h : 15 < a). ap (λ (row : List (Option ℤ)). get_or row b None) (get_or_past table a [] (omega arith)))
+      (λ (h : a ≤ 15). let wide = full_row a (omega arith) in get_or_past (get_or table a []) b None (omega arith))
+      (cases_lt 15 a)
+
+  -- the spacing of a pair is that of the list
+  pub spacing_of_lem : (a b : ℕ) → spacing_of table a b ≡ spacing_in a b (held table)
+  spacing_of_lem a b = go (ltb 15 a || ltb 15 b) refl ∙ sym (spacing_in_lem table a b)
+    where
+      go : (t : Bool) → (ltb 15 a || ltb 15 b) ≡ t → cond t None (spacing_at table a b) ≡ spacing_at table a b
+      go true e =
+          sym
+          (outside a b
+          (⊎_elim (λ (p : ltb 15 a ≡ true). inl (ltb-true 15 a p)) (λ (p : ltb 15 b ≡ true). inr (ltb-true 15 b p))
+          (or_cases (ltb 15 a) (ltb 15 b) e)))
+      go false e = refl
 
   -- a larger spacing at a place of the table is one in the list
   pub held_put : (a b : ℕ) (s : ℤ) → a < 16 → b < 16 → held (placed table a b s) ≡ with_larger a b s (held table)

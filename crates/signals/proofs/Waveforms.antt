@@ -151,6 +151,10 @@ seen_flips low t b (f ∷ fs) r h =
     there : suc f ≤ t → seen_by (suc t) (not b) fs ≡ not (seen_by t (not b) fs) → seen_by (suc t) b (f ∷ fs) ≡ not (seen_by t b (f ∷ fs))
     there l e = seen_past (suc t) f b fs (omega arith) ∙ e ∙ ap not (sym (seen_past t f b fs l))
 
+-- the value changes at a tick: there is a flip
+pub flip_from_change : (t : ℕ) (b : Bool) (fs : List ℕ) → (seen_by (suc t) b fs ≡ seen_by t b fs → ⊥) → T (has t fs)
+flip_from_change t b fs h = elim (has_or_not t fs) [ inl p ↦ p | inr n ↦ absurd (h (seen_stays t b fs n)) ]
+
 -- before every tick of a rising list: the first value
 pub seen_before_rising : (low n : ℕ) (b : Bool) (fs : List ℕ) → n ≤ low → T (rising_from low fs) → seen_by n b fs ≡ b
 seen_before_rising low n b fs h r = seen_before n b fs (λ u k. omega (arith, rising_above low u fs r k))

@@ -206,38 +206,43 @@ earlier_fall false false h = refl
 reached_first : (s t n : ℕ) → s ≤ t → T (nat_le t n) → T (nat_le s n)
 reached_first s t n h k = le→leb s n (omega (arith, leb→le t n k))
 
-ordered_rises : (s t : ℕ) (out : Waveform) → s ≤ t → In C0R1 (once false s) → In C0R1 (once false t) → Pointwise all_ones (once false s ∷ once false t ∷ []) out → In C0R1 out
-ordered_rises s t out l h k p =
+ordered_rises : (s t : ℕ) (w u out : Waveform) → w ≡ once false s → u ≡ once false t → s ≤ t → In C0R1 u → Pointwise all_ones (w ∷ u ∷ []) out → In C0R1 out
+ordered_rises s t w u out e f l k p =
+    let k' : In C0R1 (once false t) = subst (In C0R1) f k in
+    let p' : Pointwise all_ones (once false s ∷ once false t ∷ []) out = subst₂ (λ v x. Pointwise all_ones (v ∷ x ∷ []) out) e f p in
     subst (In C0R1)
-    (determined (once false t) out k.rises p.rises (sym p.starts)
-    (λ n. sym (p.follows n ∙ later_rise (nat_le s n) (nat_le t n) (reached_first s t n l))))
-    k
+    (determined (once false t) out k'.rises p'.rises (sym p'.starts)
+    (λ n. sym (p'.follows n ∙ later_rise (nat_le s n) (nat_le t n) (reached_first s t n l))))
+    k'
 
-ordered_falls : (s t : ℕ) (out : Waveform) → s ≤ t → In C1F0 (once true s) → In C1F0 (once true t) → Pointwise all_ones (once true s ∷ once true t ∷ []) out → In C1F0 out
-ordered_falls s t out l h k p =
+ordered_falls : (s t : ℕ) (w u out : Waveform) → w ≡ once true s → u ≡ once true t → s ≤ t → In C1F0 w → Pointwise all_ones (w ∷ u ∷ []) out → In C1F0 out
+ordered_falls s t w u out e f l h p =
+    let h' : In C1F0 (once true s) = subst (In C1F0) e h in
+    let p' : Pointwise all_ones (once true s ∷ once true t ∷ []) out = subst₂ (λ v x. Pointwise all_ones (v ∷ x ∷ []) out) e f p in
     subst (In C1F0)
-    (determined (once true s) out h.rises p.rises (sym p.starts)
-    (λ n. sym (p.follows n ∙ earlier_fall (nat_le s n) (nat_le t n) (reached_first s t n l))))
-    h
+    (determined (once true s) out h'.rises p'.rises (sym p'.starts)
+    (λ n. sym (p'.follows n ∙ earlier_fall (nat_le s n) (nat_le t n) (reached_first s t n l))))
+    h'
 
 -- what holds if the first pin flips no later than the second holds of pins in any order
 in_order : (c : Class) (b : Bool) →
-    ((s t : ℕ) (out : Waveform) → s ≤ t → In c (once b s) → In c (once b t) → Pointwise all_ones (once b s ∷ once b t ∷ []) out → In c out) →
+    ((s t : ℕ) (w u out : Waveform) → w ≡ once b s → u ≡ once b t → s ≤ t → In c w → In c u → Pointwise all_ones (w ∷ u ∷ []) out → In c out) →
     (w u out : Waveform) → (s : ℕ) × (w ≡ once b s) → (t : ℕ) × (u ≡ once b t) → In c w → In c u → Pointwise all_ones (w ∷ u ∷ []) out → In c out
 in_order c b ordered w u out (s, e) (t, f) h k p =
-    let h' : In c (once b s) = subst (In c) e h in
-    let k' : In c (once b t) = subst (In c) f k in
-    let p' : Pointwise all_ones (once b s ∷ once b t ∷ []) out = subst₂ (λ v x. Pointwise all_ones (v ∷ x ∷ []) out) e f p in
     elim (cases_lt s t) [
-      | inl l ↦ ordered s t out (omega arith) h' k' p'
-      | inr l ↦ ordered t s out l k' h' (swapped all_ones swap_and (once b s) (once b t) out p')
+      | inl l ↦ ordered s t w u out e f (omega arith) h k p
+      | inr l ↦ ordered t s u w out f e l k h (swapped all_ones swap_and w u out p)
     ]
 
 two_rises : (w u out : Waveform) → In C0R1 w → In C0R1 u → Pointwise all_ones (w ∷ u ∷ []) out → In C0R1 out
-two_rises w u out h k = in_order C0R1 false ordered_rises w u out (is_rise w.first w.flips h.moving) (is_rise u.first u.flips k.moving) h k
+two_rises w u out h k =
+    in_order C0R1 false (λ s t v x o e f l i j. ordered_rises s t v x o e f l j)
+    w u out (is_rise w.first w.flips h.moving) (is_rise u.first u.flips k.moving) h k
 
 two_falls : (w u out : Waveform) → In C1F0 w → In C1F0 u → Pointwise all_ones (w ∷ u ∷ []) out → In C1F0 out
-two_falls w u out h k = in_order C1F0 true ordered_falls w u out (is_fall w.first w.flips h.moving) (is_fall u.first u.flips k.moving) h k
+two_falls w u out h k =
+    in_order C1F0 true (λ s t v x o e f l i j. ordered_falls s t v x o e f l i)
+    w u out (is_fall w.first w.flips h.moving) (is_fall u.first u.flips k.moving) h k
 
 -- a clean class is 0R1 or 1F0
 pub clean_cases : (c : Class) → T (is_clean c) → T (same_class c C0R1) ⊎ T (same_class c C1F0)
