@@ -20,7 +20,7 @@ fn raise(spacing: Option<i32>, from: u64, time: u64) -> u64
 {
     let Some(s) = spacing else { return time };
     let sum = from.cast_signed() + i64::from(s);
-    u64::try_from(sum).map_or(time, |sum| sum.max(time))
+    time.max(sum.max(0).cast_unsigned())
 }
 
 impl Spacings {
