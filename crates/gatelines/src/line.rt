@@ -36,6 +36,8 @@ fn read_pins(words: Words) -> Result<ArrayVec<Class, PINS>, LineFault>
 
 // The class of the output of the gate that the line describes, or what is wrong with the line. Words are separated by
 // spaces; a line without words names no function.
+// not inlined: a caller that prints would no longer have its printing inlined
+#[inline(never)]
 pub fn class_of_line(line: &str) -> Result<Class, LineFault>
     ensures { Says line.now result }
 {
