@@ -122,3 +122,10 @@ module _ {V : Type 0} (ops : Ops V) (stands : V → Waveform → Type 0) (reachi
   -- so where each result also contains every output, it is the narrowest value that does
   pub narrowest_by : Sound ops stands → (f : Function) (pins : List V) → Narrowest stands (described f).truth pins (evaluated ops f pins)
   narrowest_by sound f pins = record { contains = evaluated_contains ops stands sound f pins; least = least f pins }
+
+-- a value that contains every output and equals one that lies within each such value is the narrowest
+pub narrowest_from : {V : Type 0} (stands : V → Waveform → Type 0) (truth : List Bool → Bool) (pins : List V) (v r : V)
+    → ((u : V) → Contains stands truth pins u → (w : Waveform) → stands v w → stands u w)
+    → r ≡ v → Contains stands truth pins r → Narrowest stands truth pins r
+narrowest_from stands truth pins v r within e c =
+    record { contains = c; least = λ u all w s. within u all w (subst (λ x. stands x w) e s) }

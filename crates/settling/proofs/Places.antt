@@ -1,7 +1,8 @@
 -- Lists and folds over the first places, as the definitions write them. Assumes nothing.
-use Rattle.std.proofs.Common.{◌≡◌, ℕ, zero, suc, ◌+◌, ◌<◌, ◌≤◌, Bool, cond, not, ◌&&◌, ◌||◌, eqb, ltb, List, [], ◌∷◌, ◌++◌, map, take, None, Option, refl, sym, ap, ◌∙◌, add-one, arith}
+use Rattle.std.proofs.Common.{◌≡◌, ℕ, zero, suc, ◌+◌, ◌<◌, ◌≤◌, Bool, true, false, cond, not, ◌&&◌, ◌||◌, eqb, ltb, List, [], ◌∷◌, ◌++◌, length, map, take, None, Option, refl, sym, ap, ◌∙◌, ⊎_elim, add-one, arith}
 use Rattle.std.proofs.Math.Bool.{or-false}
-use Rattle.std.proofs.lemmas.Bool.{cond-true, lt-ltb}
+use Rattle.std.proofs.lemmas.Bool.{cond-true, lt-ltb, or_from, or_left, or_right, cases_eq}
+use Rattle.std.proofs.lemmas.List.{take_all}
 use Rattle.std.proofs.lemmas.List.Folds.{list_any-append}
 use Rattle.std.proofs.lemmas.List.FromFn.{map-range_with_len_more, take-map-range_with_len}
 use Rattle.std.proofs.lemmas.List.Sums.{fold-append}
@@ -33,6 +34,11 @@ listed_map f (suc n) =
     ap (λ (k : ℕ). map f (range_with_len 0 k)) (sym (add-one n))
     ∙ (map-range_with_len_more f 0 n n (omega arith) ∙ ap (λ (xs : List _). xs ++ f n ∷ []) (listed_map f n))
 
+-- a list whose front holds the function's values, up to its end
+pub listed_all : {X : Type 0} (f : ℕ → X) (xs : List X) (n i : ℕ) → length xs ≡ n → n ≤ i → take i xs ≡ listed f i → i ≤ n → xs ≡ listed f n
+listed_all f xs n i e l h k =
+    let same : i ≡ n = omega arith in let all : length xs ≤ i = omega arith in sym (take_all i xs all) ∙ (h ∙ ap (listed f) same)
+
 -- whether any other place passes
 pub other_any : (passes : ℕ → Bool) (p n : ℕ) → list_any (λ q. not (eqb q p) && passes q) (range_with_len 0 n) ≡ some_other passes p n
 other_any passes p zero = refl
@@ -40,6 +46,30 @@ other_any passes p (suc n) =
     let test : ℕ → Bool = λ q. not (eqb q p) && passes q in
     ap (list_any test) (range_more 0 n n (omega arith)) ∙ (list_any-append test (range_with_len 0 n) (n ∷ [])
     ∙ (ap (λ (b : Bool). b || list_any test (n ∷ [])) (other_any passes p n) ∙ ap (λ (b : Bool). some_other passes p n || b) (or-false (test n))))
+
+-- an other place that passes
+found : (passes : ℕ → Bool) (p m q : ℕ) → q < m → (not (eqb q p) && passes q) ≡ true → some_other passes p m ≡ true
+found passes p zero q l h = absurd (omega arith)
+found passes p (suc m) q l h =
+    ⊎_elim
+    (λ e. or_right (some_other passes p m) (not (eqb m p) && passes m) (ap (λ (k : ℕ). not (eqb k p) && passes k) e ∙ h))
+    (λ e. or_left (some_other passes p m) (not (eqb m p) && passes m) (found passes p m q (omega arith) h))
+    (cases_eq m q)
+
+-- no place below 0
+pub other_none : (passes : ℕ → Bool) (p : ℕ) → some_other passes p 0 ≡ false
+other_none passes p = refl
+
+-- none below q, and not q either
+pub other_more : (passes : ℕ → Bool) (p q : ℕ) (r : Bool) → some_other passes p q ≡ false → r ≡ (not (eqb q p) && passes q) → r ≡ false → some_other passes p (q + 1) ≡ false
+other_more passes p q r h e f = ap (some_other passes p) (add-one q) ∙ or_from (some_other passes p q) (not (eqb q p) && passes q) h (sym e ∙ f)
+
+-- the answers of the loop: at a place that passes, and at the end
+pub other_found : (passes : ℕ → Bool) (p n q : ℕ) (r : Bool) → q < n → r ≡ (not (eqb q p) && passes q) → r ≡ true → true ≡ some_other passes p n
+other_found passes p n q r l e f = sym (found passes p n q l (sym e ∙ f))
+
+pub other_all : (passes : ℕ → Bool) (p n q : ℕ) → some_other passes p q ≡ false → n ≤ q → q ≤ n → false ≡ some_other passes p n
+other_all passes p n q h k l = let same : q ≡ n = omega arith in sym h ∙ ap (some_other passes p) same
 
 -- what the places give, joined one after another
 pub gathered_fold : (from : ℕ → Option Bounds) (n : ℕ) → fold (λ all place. joined all (from place)) None (range_with_len 0 n) ≡ gathered from n
